@@ -1,0 +1,93 @@
+-- Soundness as numbers: what the tests of `isSound` say of a machine, and back.
+use Prim.Native.Nat.{ℕ, _≤_, _<_, _*_, _^_}
+use mathlib.Core.Path.{_≡_, refl, ap}
+use mathlib.Core.Bool.{Bool, true, false, not, _&&_}
+use borrow.Author.Tests.{leb-true, ltb-true, not-true, le-leb, lt-ltb}
+use lib.Dec.{leb, ltb}
+use Rattle.rules.specs.Registers.{isPrivileged}
+use Rattle.rules.specs.Refusals.{pick}
+use Rattle.machine.specs.Machine.{isSound, rangesHold, memorySize}
+use Rattle.machine.specs.declared.record.Machine.{Machine}
+
+and-left : (a b : Bool) → a && b ≡ true → a ≡ true
+and-left true b h = refl
+and-left false b h = h
+
+and-right : (a b : Bool) → a && b ≡ true → b ≡ true
+and-right true b h = h
+and-right false b h = cc
+
+-- each of seven tests that all hold
+seven : (a b c d e f g : Bool) → a && b && c && d && e && f && g ≡ true
+    → (a ≡ true) × (b ≡ true) × (c ≡ true) × (d ≡ true) × (e ≡ true) × (f ≡ true) × (g ≡ true)
+seven a b c d e f g h =
+    let h₆ = and-left (a && b && c && d && e && f) g h in
+    let h₅ = and-left (a && b && c && d && e) f h₆ in
+    let h₄ = and-left (a && b && c && d) e h₅ in
+    let h₃ = and-left (a && b && c) d h₄ in
+    let h₂ = and-left (a && b) c h₃ in
+    (and-left a b h₂, and-right a b h₂, and-right (a && b) c h₃, and-right (a && b && c) d h₄,
+    and-right (a && b && c && d) e h₅, and-right (a && b && c && d && e) f h₆,
+    and-right (a && b && c && d && e && f) g h)
+
+four : (a b c d : Bool) → a && b && c && d ≡ true → (a ≡ true) × (b ≡ true) × (c ≡ true) × (d ≡ true)
+four a b c d h =
+    let h₃ = and-left (a && b && c) d h in
+    let h₂ = and-left (a && b) c h₃ in
+    (and-left a b h₂, and-right a b h₂, and-right (a && b) c h₃, and-right (a && b && c) d h)
+
+ranges : (m : Machine) → rangesHold m ≡ true
+    → (leb 1 (m .pages) ≡ true) × (leb (m .pages) 128 ≡ true) × (leb 5 (m .exponent) ≡ true)
+    × (leb (m .exponent) 12 ≡ true) × (leb (m .depth) 8 ≡ true) × (leb 1 (m .programs) ≡ true)
+    × (leb (m .programs) 8 ≡ true)
+ranges m h =
+    seven (leb 1 (m .pages)) (leb (m .pages) 128) (leb 5 (m .exponent)) (leb (m .exponent) 12) (leb (m .depth) 8)
+    (leb 1 (m .programs)) (leb (m .programs) 8) h
+
+-- where the ranges hold, a memory size that is 0 for an exponent out of range is the memory size
+guarded : (r b : Bool) (x : ℕ) → (r ≡ true → b ≡ true) → r && leb (pick b x 0) 65536 ≡ r && leb x 65536
+guarded true b x h = rw (h refl)
+guarded false b x h = refl
+
+pub memory-guarded : (m : Machine)
+    → rangesHold m && leb (pick (leb (m .exponent) 12) (memorySize m) 0) 65536 ≡ rangesHold m && leb (memorySize m) 65536
+memory-guarded m = guarded (rangesHold m) (leb (m .exponent) 12) (memorySize m) (λ h. ranges m h .3)
+
+-- the facts of a sound machine
+pub record Sound (m : Machine) : Type 0 where
+  pub pages-least : 1 ≤ m .pages
+  pub pages-most : m .pages ≤ 128
+  pub exponent-least : 5 ≤ m .exponent
+  pub exponent-most : m .exponent ≤ 12
+  pub depth-most : m .depth ≤ 8
+  pub programs-least : 1 ≤ m .programs
+  pub programs-most : m .programs ≤ 8
+  pub memory-most : memorySize m ≤ 65536
+  pub current-below : m .current < m .programs
+  pub calm : m .registers .pending && isPrivileged (m .registers .mode) ≡ false
+
+pub sound-facts : (m : Machine) → isSound m ≡ true → Sound m
+unfolding isSound
+sound-facts m h =
+    let calm = m .registers .pending && isPrivileged (m .registers .mode) in
+    let s = four (rangesHold m) (leb (memorySize m) 65536) (ltb (m .current) (m .programs)) (not calm) h in
+    let r = ranges m (s .0) in
+    record {
+      pages-least = leb-true _ _ (r .0);
+      pages-most = leb-true _ _ (r .1);
+      exponent-least = leb-true _ _ (r .2);
+      exponent-most = leb-true _ _ (r .3);
+      depth-most = leb-true _ _ (r .4);
+      programs-least = leb-true _ _ (r .5);
+      programs-most = leb-true _ _ (r .6);
+      memory-most = leb-true _ _ (s .1);
+      current-below = ltb-true _ _ (s .2);
+      calm = not-true calm (s .3)
+    }
+
+pub facts-sound : (m : Machine) → Sound m → isSound m ≡ true
+unfolding isSound
+facts-sound m s =
+    rw (le-leb _ _ (s .pages-least), le-leb _ _ (s .pages-most), le-leb _ _ (s .exponent-least),
+    le-leb _ _ (s .exponent-most), le-leb _ _ (s .depth-most), le-leb _ _ (s .programs-least),
+    le-leb _ _ (s .programs-most), le-leb _ _ (s .memory-most), lt-ltb _ _ (s .current-below), s .calm)

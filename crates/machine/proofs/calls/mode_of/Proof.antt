@@ -1,0 +1,15 @@
+use Rattle.machine.proofs.calls.mode_of.Statement.{statement}
+use Rattle.machine.proofs.calls.mode_of.Tie as tie
+use Rattle.machine.proofs.calls.mode_of.Reads as reads
+use Rattle.machine.proofs.calls.mode_of.Lts as lts
+
+-- src/calls.rt:39:9
+returns : tie.Need-returns
+returns c = ?
+
+-- src/calls.rt:35:1
+returns-2 : tie.Need-returns-2
+returns-2 c = ?
+
+pub mode-of-spec : {M : Type 1} → statement M
+mode-of-spec = tie.close (tie.spec returns returns-2)

@@ -1,0 +1,269 @@
+// The eleven calls (document 01, "Calls and what each refuses"). Each method has one shape: an array is indexed only in a
+// local, the number comes first, what an accepted call changes is chosen by it, and the answer is made once at the end.
+use rules::registers::{Mode, Registers};
+use rules::domains::{prevailing_of, with_bit, without_bit};
+use rules::decisions::{access_number, checked, command_number, entry_number, field_number, mask_number, mode_number, register_number, return_number, switch_number};
+use crate::record::{Answered, Domain, Machine, Page, Program, Saved, memory_size, page_of, place};
+
+ghost use mathlib.Core.Path.{_≡_};
+ghost use mathlib.Core.Bool.{not};
+ghost use Prim.Native.Nat.{_-_};
+ghost use Rattle.rules.specs.Domains.{prevailing};
+ghost use Rattle.rules.specs.Refusals.{pick, first};
+ghost use Rattle.machine.specs.Machine.{isSound};
+ghost use Rattle.machine.specs.declared.record.Call.{Call};
+ghost use Rattle.machine.specs.Calls.{callOf, accessChecks, commandChecks, modeOf};
+
+// The new value where a call was accepted, else the old one.
+fn chosen(done: bool, new: u16, old: u16) -> u16
+    ensures { λ r. ⌜ r ≡ pick done new old ⌝ }
+{
+    if done { new } else { old }
+}
+
+// The place below a depth.
+fn below(depth: u8) -> usize
+    ensures { λ r. ⌜ r ≡ depth - 1 ⌝ }
+{
+    if depth == 0 {
+        return 0;
+    }
+    (depth - 1) as usize
+}
+
+// The mode of a number.
+fn mode_of(number: u16) -> Mode
+    ensures { λ r. ⌜ r ≡ modeOf number ⌝ }
+{
+    if number == 0 {
+        return Mode::User;
+    }
+    Mode::Privileged
+}
+
+impl Machine {
+    // The number of an access, from the field of that right to the address's page.
+    fn access_to(self, right: u8, address: u32, field: u16) -> u8
+        ensures { λ r. ⌜ r ≡ pick (not (isSound self)) 1 (first (accessChecks self right address field)) ⌝ }
+    {
+        let registers = self.registers;
+        let number = access_number(
+            !(right <= 1),
+            memory_size(self.pages, self.exponent) <= address,
+            registers.privileged(),
+            registers.pending,
+            field & registers.local() == 0,
+        );
+        checked(!self.sound(), number)
+    }
+
+    pub fn access(mut self, right: u8, address: u32) -> Answered
+        ensures { λ r. ⌜ r ≡ callOf self (Call.Access right address) ⌝ }
+    {
+        let registers = self.registers;
+        let at = place(right, page_of(address, self.exponent));
+        let fields = self.fields;
+        let mut field: u16 = 0;
+        if at < 256 {
+            field = fields[at];
+        }
+        let number = self.access_to(right, address, field);
+        let after = registers.or_where(number == 9, registers.with_pending(true));
+        self.registers = after;
+        Answered { number, machine: self }
+    }
+
+    // The number of a grant or a revocation, from the field of that right to that page.
+    fn command(self, right: u8, page: Page, domain: Domain, field: u16) -> u8
+        ensures { λ r. ⌜ r ≡ pick (not (isSound self)) 1 (first (commandChecks self right page domain (prevailing field))) ⌝ }
+    {
+        let registers = self.registers;
+        let prevails = prevailing_of(field);
+        let number = command_number(
+            !(right <= 1),
+            !(page.0 < self.pages),
+            !(domain.0 < Machine::DOMAINS),
+            registers.privileged(),
+            registers.pending,
+            prevails.outside(registers.local()),
+            prevails.not_lower(domain.0),
+        );
+        checked(!self.sound(), number)
+    }
+
+    pub fn grant(mut self, right: u8, page: Page, domain: Domain) -> Answered
+        ensures { λ r. ⌜ r ≡ callOf self (Call.Grant right page domain) ⌝ }
+    {
+        let at = place(right, page.0 as u32);
+        let mut fields = self.fields;
+        let mut field: u16 = 0;
+        if at < 256 {
+            field = fields[at];
+        }
+        let number = self.command(right, page, domain, field);
+        if at < 256 {
+            fields[at] = chosen(number == 0, with_bit(field, domain.0), field);
+        }
+        self.fields = fields;
+        Answered { number, machine: self }
+    }
+
+    pub fn revoke(mut self, right: u8, page: Page, domain: Domain) -> Answered
+        ensures { λ r. ⌜ r ≡ callOf self (Call.Revoke right page domain) ⌝ }
+    {
+        let at = place(right, page.0 as u32);
+        let mut fields = self.fields;
+        let mut field: u16 = 0;
+        if at < 256 {
+            field = fields[at];
+        }
+        let number = self.command(right, page, domain, field);
+        if at < 256 {
+            fields[at] = chosen(number == 0, without_bit(field, domain.0), field);
+        }
+        self.fields = fields;
+        Answered { number, machine: self }
+    }
+
+    pub fn set_mask(mut self, mask: u16) -> Answered
+        ensures { λ r. ⌜ r ≡ callOf self (Call.SetMask mask) ⌝ }
+    {
+        let registers = self.registers;
+        let number = checked(!self.sound(), mask_number(registers.privileged(), registers.pending));
+        let after = registers.or_where(number == 0, registers.with_mask(mask));
+        self.registers = after;
+        Answered { number, machine: self }
+    }
+
+    // Interrupt entry.
+    pub fn enter(mut self) -> Answered
+        ensures { λ r. ⌜ r ≡ callOf self Call.Enter ⌝ }
+    {
+        let registers = self.registers;
+        let mode = registers.mode;
+        let mut depth = self.depth;
+        let mut saved = self.saved;
+        let number = checked(!self.sound(), entry_number(depth == Machine::DEPTH));
+        if number == 0 && depth < 8 {
+            saved[depth as usize] = Saved { mode };
+            depth += 1;
+        }
+        let after = registers.or_where(number == 0, registers.with_pending(false).with_mode(Mode::Privileged));
+        self.registers = after;
+        self.depth = depth;
+        self.saved = saved;
+        Answered { number, machine: self }
+    }
+
+    // Return from an interrupt.
+    pub fn leave(mut self) -> Answered
+        ensures { λ r. ⌜ r ≡ callOf self Call.Return ⌝ }
+    {
+        let mut registers = self.registers;
+        let mut depth = self.depth;
+        let mut saved = self.saved;
+        let top = below(depth);
+        let number = checked(!self.sound(), return_number(!registers.privileged(), depth == 0));
+        if number == 0 && top < 8 {
+            let last = saved[top];
+            let mode = last.mode;
+            saved[top] = Saved { mode: Mode::User };
+            registers = registers.with_mode(mode);
+            depth = top as u8;
+        }
+        self.registers = registers;
+        self.depth = depth;
+        self.saved = saved;
+        Answered { number, machine: self }
+    }
+
+    // Switch to a program.
+    pub fn switch_to(mut self, program: u16) -> Answered
+        ensures { λ r. ⌜ r ≡ callOf self (Call.Switch program) ⌝ }
+    {
+        let mut registers = self.registers;
+        let mut saved = self.saved;
+        let mut current = self.current;
+        let mut table = self.table;
+        let programs = self.programs;
+        let number = checked(
+            !self.sound(),
+            switch_number(
+                !registers.privileged(),
+                !(current < programs),
+                !(self.depth == 1),
+                !(program < programs),
+            ),
+        );
+        if number == 0 && current < 8 && program < 8 {
+            let interrupted = saved[0];
+            let mode = interrupted.mode;
+            table[current as usize] = Program {
+                context: registers.context,
+                mask: registers.mask,
+                mode,
+            };
+            let named = table[program as usize];
+            let next = named.mode;
+            saved[0] = Saved { mode: next };
+            registers = registers.with_mask(named.mask).with_context(named.context);
+            current = program;
+        }
+        self.registers = registers;
+        self.saved = saved;
+        self.current = current;
+        self.table = table;
+        Answered { number, machine: self }
+    }
+
+    // The kernel's store of a field.
+    pub fn store_field(mut self, right: u8, page: Page, bits: u16) -> Answered
+        ensures { λ r. ⌜ r ≡ callOf self (Call.StoreField right page bits) ⌝ }
+    {
+        let registers = self.registers;
+        let at = place(right, page.0 as u32);
+        let mut fields = self.fields;
+        let number = checked(
+            !self.sound(),
+            field_number(!(right <= 1), !(page.0 < self.pages), !registers.privileged()),
+        );
+        if at < 256 {
+            fields[at] = chosen(number == 0, bits, fields[at]);
+        }
+        self.fields = fields;
+        Answered { number, machine: self }
+    }
+
+    // The kernel's store of the global context.
+    pub fn store_context(mut self, bits: u16) -> Answered
+        ensures { λ r. ⌜ r ≡ callOf self (Call.StoreContext bits) ⌝ }
+    {
+        let registers = self.registers;
+        let number = checked(!self.sound(), register_number(!registers.privileged()));
+        let after = registers.or_where(number == 0, registers.with_context(bits));
+        self.registers = after;
+        Answered { number, machine: self }
+    }
+
+    // The kernel's store of the mask.
+    pub fn store_mask(mut self, bits: u16) -> Answered
+        ensures { λ r. ⌜ r ≡ callOf self (Call.StoreMask bits) ⌝ }
+    {
+        let registers = self.registers;
+        let number = checked(!self.sound(), register_number(!registers.privileged()));
+        let after = registers.or_where(number == 0, registers.with_mask(bits));
+        self.registers = after;
+        Answered { number, machine: self }
+    }
+
+    // The kernel's store of the mode.
+    pub fn store_mode(mut self, mode: u16) -> Answered
+        ensures { λ r. ⌜ r ≡ callOf self (Call.StoreMode mode) ⌝ }
+    {
+        let registers = self.registers;
+        let number = checked(!self.sound(), mode_number(!(mode <= 1), !registers.privileged()));
+        let after = registers.or_where(number == 0, registers.with_mode(mode_of(mode)));
+        self.registers = after;
+        Answered { number, machine: self }
+    }
+}

@@ -1,0 +1,136 @@
+// The machine (document 01, "The machine").
+use rules::registers::{Mode, Registers};
+
+ghost use mathlib.Core.Path.{_≡_};
+ghost use Prim.Native.Nat.{_*_, _^_, _/_};
+ghost use lib.Dec.{leb};
+ghost use Rattle.rules.specs.Refusals.{pick};
+ghost use Rattle.machine.specs.Machine.{zero, isSound, placeOf};
+
+// A saved mode: one place of the stack.
+pub struct Saved {
+    pub mode: Mode,
+}
+
+// What is stored for a program: global context, mask and mode.
+pub struct Program {
+    pub context: u16,
+    pub mask: u16,
+    pub mode: Mode,
+}
+
+// A page number.
+pub struct Page(pub u16);
+
+// A domain number.
+pub struct Domain(pub u16);
+
+// The field of a right r to page p stands at 2p + r.
+pub struct Machine {
+    pub pages: u16,
+    pub exponent: u8,
+    pub fields: [u16; 256],
+    pub registers: Registers,
+    pub depth: u8,
+    pub saved: [Saved; 8],
+    pub programs: u16,
+    pub current: u16,
+    pub table: [Program; 8],
+}
+
+// What a call gives back: its number and the machine after it.
+pub struct Answered {
+    pub number: u8,
+    pub machine: Machine,
+}
+
+// One of the eleven calls.
+pub enum Call {
+    Access(u8, u32),
+    Grant(u8, Page, Domain),
+    Revoke(u8, Page, Domain),
+    SetMask(u16),
+    Enter,
+    Return,
+    Switch(u16),
+    StoreField(u8, Page, u16),
+    StoreContext(u16),
+    StoreMask(u16),
+    StoreMode(u16),
+}
+
+impl Machine {
+    pub const DOMAINS: u16 = 16;
+    pub const PAGES: u16 = 128;
+    pub const PROGRAMS: u16 = 8;
+    pub const DEPTH: u8 = 8;
+
+    // The machine in which every number is zero, every mode user and the flag clear.
+    pub fn zero() -> Machine
+        ensures { λ r. ⌜ r ≡ zero ⌝ }
+    {
+        Machine {
+            pages: 0,
+            exponent: 0,
+            fields: [0u16; 256],
+            registers: Registers {
+                context: 0,
+                mask: 0,
+                mode: Mode::User,
+                pending: false,
+            },
+            depth: 0,
+            saved: [Saved { mode: Mode::User }; 8],
+            programs: 0,
+            current: 0,
+            table: [Program {
+                context: 0,
+                mask: 0,
+                mode: Mode::User,
+            }; 8],
+        }
+    }
+
+    pub fn sound(self) -> bool
+        ensures { λ r. ⌜ r ≡ isSound self ⌝ }
+    {
+        let registers = self.registers;
+        (1 <= self.pages)
+            & (self.pages <= Machine::PAGES)
+            & (5 <= self.exponent)
+            & (self.exponent <= 12)
+            & (self.depth <= Machine::DEPTH)
+            & (1 <= self.programs)
+            & (self.programs <= Machine::PROGRAMS)
+            & (memory_size(self.pages, self.exponent) <= 65536)
+            & (self.current < self.programs)
+            & !(registers.pending & registers.privileged())
+    }
+}
+
+// Page count × page size; 0 where the exponent is out of range, so that no shift runs past its width.
+pub fn memory_size(pages: u16, exponent: u8) -> u32
+    ensures { λ r. ⌜ r ≡ pick (leb exponent 12) (pages * 2 ^ exponent) 0 ⌝ }
+{
+    if exponent <= 12 {
+        return (pages as u32) << exponent;
+    }
+    0
+}
+
+// The page of an address; 0 where the exponent is out of range.
+pub fn page_of(address: u32, exponent: u8) -> u32
+    ensures { λ r. ⌜ r ≡ pick (leb exponent 12) (address / 2 ^ exponent) 0 ⌝ }
+{
+    if exponent <= 12 {
+        return address >> exponent;
+    }
+    0
+}
+
+// Where the field of a right to a page stands, of any right and page.
+pub fn place(right: u8, page: u32) -> usize
+    ensures { λ r. ⌜ r ≡ placeOf right page ⌝ }
+{
+    2 * (page as usize) + right as usize
+}

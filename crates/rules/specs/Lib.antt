@@ -1,0 +1,3 @@
+pub mod Registers
+pub mod Domains
+pub mod Refusals

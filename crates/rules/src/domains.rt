@@ -1,0 +1,67 @@
+// Domains as bits of a field or a context, and the prevailing domain of a field (document 01, "The machine").
+ghost use mathlib.Core.Path.{_≡_};
+ghost use Rattle.rules.specs.Domains.{domainBit, holds, withBit, withoutBit, prevailing, isOutside, isNotLower};
+
+// The prevailing domain of a right to a page.
+pub enum Prevailing {
+    Absent,
+    At(u16),
+}
+
+// The number with bit s set alone, 0 where there is no domain s.
+pub fn domain_bit(s: u16) -> u16
+    ensures { λ r. ⌜ r ≡ domainBit s ⌝ }
+{
+    if s < 16 { 1 << s } else { 0 }
+}
+
+// Domain s is in a field or a context.
+pub fn holds_domain(set: u16, s: u16) -> bool
+    ensures { λ r. ⌜ r ≡ holds set s ⌝ }
+{
+    set & domain_bit(s) != 0
+}
+
+pub fn with_bit(field: u16, s: u16) -> u16
+    ensures { λ r. ⌜ r ≡ withBit field s ⌝ }
+{
+    field | domain_bit(s)
+}
+
+pub fn without_bit(field: u16, s: u16) -> u16
+    ensures { λ r. ⌜ r ≡ withoutBit field s ⌝ }
+{
+    field & (65535 - domain_bit(s))
+}
+
+// The lowest-numbered bit set.
+pub fn prevailing_of(field: u16) -> Prevailing
+    ensures { λ r. ⌜ r ≡ prevailing field ⌝ }
+{
+    if field == 0 {
+        return Prevailing::Absent;
+    }
+    Prevailing::At(u16::trailing_zeros(field) as u16)
+}
+
+impl Prevailing {
+    // Absent, or outside the local context.
+    pub fn outside(self, local: u16) -> bool
+        ensures { λ r. ⌜ r ≡ isOutside self local ⌝ }
+    {
+        match self {
+            Prevailing::Absent => true,
+            Prevailing::At(domain) => !holds_domain(local, domain),
+        }
+    }
+
+    // Domain s is not of lower level than this one.
+    pub fn not_lower(self, s: u16) -> bool
+        ensures { λ r. ⌜ r ≡ isNotLower self s ⌝ }
+    {
+        match self {
+            Prevailing::Absent => true,
+            Prevailing::At(domain) => s <= domain,
+        }
+    }
+}

@@ -1,0 +1,98 @@
+// The live registers (document 01, "The machine").
+ghost use mathlib.Core.Path.{_≡_};
+ghost use Rattle.rules.specs.Refusals.{pick};
+ghost use Rattle.rules.specs.Registers.{isPrivileged, localContext, withContext, withMask, withMode, withPending};
+
+// The live mode, and a saved or stored one.
+pub enum Mode {
+    User,
+    Privileged,
+}
+
+// The register record: global context, mask, mode and the pending flag.
+pub struct Registers {
+    pub context: u16,
+    pub mask: u16,
+    pub mode: Mode,
+    pub pending: bool,
+}
+
+impl Mode {
+    pub fn privileged(self) -> bool
+        ensures { λ r. ⌜ r ≡ isPrivileged self ⌝ }
+    {
+        match self {
+            Mode::User => false,
+            Mode::Privileged => true,
+        }
+    }
+}
+
+impl Registers {
+    pub fn privileged(self) -> bool
+        ensures { λ r. ⌜ r ≡ isPrivileged (self .mode) ⌝ }
+    {
+        let mode = self.mode;
+        mode.privileged()
+    }
+
+    // The local context: the part of the global context that the mask lets through.
+    pub fn local(self) -> u16
+        ensures { λ r. ⌜ r ≡ localContext self ⌝ }
+    {
+        self.context & self.mask
+    }
+    pub fn with_context(self, bits: u16) -> Registers
+        ensures { λ r. ⌜ r ≡ withContext bits self ⌝ }
+    {
+        let mode = self.mode;
+        Registers {
+            context: bits,
+            mask: self.mask,
+            mode,
+            pending: self.pending,
+        }
+    }
+
+    pub fn with_mask(self, bits: u16) -> Registers
+        ensures { λ r. ⌜ r ≡ withMask bits self ⌝ }
+    {
+        let mode = self.mode;
+        Registers {
+            context: self.context,
+            mask: bits,
+            mode,
+            pending: self.pending,
+        }
+    }
+
+    pub fn with_mode(self, mode: Mode) -> Registers
+        ensures { λ r. ⌜ r ≡ withMode mode self ⌝ }
+    {
+        Registers {
+            context: self.context,
+            mask: self.mask,
+            mode,
+            pending: self.pending,
+        }
+    }
+
+    pub fn with_pending(self, pending: bool) -> Registers
+        ensures { λ r. ⌜ r ≡ withPending pending self ⌝ }
+    {
+        let mode = self.mode;
+        Registers {
+            context: self.context,
+            mask: self.mask,
+            mode,
+            pending,
+        }
+    }
+
+    // These registers, or others where a call was accepted.
+    pub fn or_where(self, done: bool, others: Registers) -> Registers
+        ensures { λ r. ⌜ r ≡ pick done others self ⌝ }
+    {
+        if done { others } else { self }
+    }
+}

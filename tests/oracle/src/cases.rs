@@ -1,0 +1,162 @@
+//! The stored cases, in a fixed order. Each says what it is for and, by hand from
+//! document 01, which answers are due; the unit tests hold the oracle to them.
+//!
+//! A run starts from a loaded machine, which is sound, and every call keeps it so.
+//! So no case has answer 1, or answer 10, which waits behind 1.
+
+mod commands;
+mod kernel;
+mod lengths;
+mod loader;
+mod sample;
+
+use crate::histories;
+use crate::random::Random;
+use crate::run;
+use crate::write::*;
+
+pub struct Case {
+    pub purpose: String,
+    pub input: Vec<u8>,
+    /// The answers as the bench gets them. The random runs at the end have none written here.
+    pub due: Option<Vec<u8>>,
+}
+
+/// A call and the answer due to it.
+pub type Step = (Record, u8);
+
+#[derive(Default)]
+pub struct Cases {
+    pub list: Vec<Case>,
+}
+
+impl Cases {
+    /// An input as it stands, with the answers due.
+    fn input(&mut self, purpose: &str, input: Vec<u8>, due: &[u8]) {
+        self.list.push(Case { purpose: purpose.to_string(), input, due: Some(due.to_vec()) });
+    }
+
+    /// A legal image and calls on it.
+    fn run(&mut self, purpose: &str, plan: &Plan, steps: &[Step]) {
+        let records: Vec<Record> = steps.iter().map(|step| step.0).collect();
+        let mut due = vec![0];
+        due.extend(steps.iter().map(|step| step.1));
+        self.input(purpose, input(&plan.image(), &records.concat()), &due);
+    }
+
+    /// An image and the answer of its load. One call follows, which shows that a refused load stops.
+    fn load(&mut self, purpose: &str, image: &[u8], answer: u8) {
+        let due: &[u8] = if answer == 0 { &[0, 0] } else { &[answer] };
+        self.input(&format!("load {answer}: {purpose}"), input(image, &entry_call()), due);
+    }
+}
+
+pub fn all() -> Vec<Case> {
+    let mut cases = Cases::default();
+    sample::add(&mut cases);
+    commands::add(&mut cases);
+    kernel::add(&mut cases);
+    loader::add(&mut cases);
+    lengths::add(&mut cases);
+    for seed in 1..=12 {
+        let input = histories::legal(&mut Random::new(seed), 120);
+        cases.list.push(Case { purpose: format!("a random run, seed {seed}"), input, due: None });
+    }
+    cases.list
+}
+
+/// The stored file: for each case a length of 4 bytes, high byte first, and the input.
+pub fn file() -> Vec<u8> {
+    let mut file = Vec::new();
+    for case in all() {
+        file.extend((case.input.len() as u32).to_be_bytes());
+        file.extend(case.input);
+    }
+    file
+}
+
+/// What a program must print that reads the file. It is not written where the oracle
+/// and the answers written by hand disagree.
+pub fn output() -> String {
+    let mut output = String::new();
+    for (before, case) in all().iter().enumerate() {
+        if let Some(due) = &case.due {
+            assert_eq!(&run::answers(&case.input), due, "case {}: {}", before + 1, case.purpose);
+        }
+        output += &format!("case {}\n", before + 1);
+        output += &run::text(&case.input);
+    }
+    output
+}
+
+/// One line for each case, for people.
+pub fn listing() -> String {
+    let mut listing = String::new();
+    for (before, case) in all().iter().enumerate() {
+        listing += &format!("{:4} {:6}  {}\n", before + 1, case.input.len(), case.purpose);
+    }
+    listing
+}
+
+/// The sample node: 3 pages of 256 bytes, two programs.
+pub fn sample() -> Plan {
+    Plan {
+        exponent: 8,
+        pages: vec![(0x0009, 0x0000), (0x000A, 0x0002), (0x000C, 0x0004)],
+        programs: vec![(0x0007, 0x0003, 0), (0x0008, 0xFFFF, 0)],
+    }
+}
+
+/// One program in user mode with the given context and mask, pages of 32 bytes.
+fn small(pages: &[(u16, u16)], context: u16, mask: u16) -> Plan {
+    Plan { exponent: 5, pages: pages.to_vec(), programs: vec![(context, mask, 0)] }
+}
+
+/// Entry and return: from user mode back to user mode, with the flag clear.
+fn clear_flag() -> Vec<Step> {
+    vec![(entry_call(), 0), (return_call(), 0)]
+}
+
+/// Turn of another program: entry, switch to it and return.
+fn turn(program: u16) -> Vec<Step> {
+    vec![(entry_call(), 0), (switch(program), 0), (return_call(), 0)]
+}
+
+/// From user mode below depth 8, shows that a field holds these bits and no others:
+/// all other domains together are denied, and each of its domains alone is allowed.
+/// The live context and mask are lost.
+fn field_is(right: u8, page: u16, exponent: u8, bits: u16) -> Vec<Step> {
+    let address = u32::from(page) << exponent;
+    let mut steps = vec![(entry_call(), 0), (store_mask(0xFFFF), 0), (store_context(!bits), 0)];
+    steps.extend([(return_call(), 0), (access(right, address), 9)]);
+    for one in ones(bits) {
+        steps.extend([(entry_call(), 0), (store_context(one), 0), (return_call(), 0)]);
+        steps.push((access(right, address), 0));
+    }
+    steps
+}
+
+/// The same for the live mask, seen through READ of page 0, which is lost with the context.
+fn mask_is(bits: u16) -> Vec<Step> {
+    live_is(store_context(0xFFFF), bits)
+}
+
+/// The same for the live global context; the mask and READ of page 0 are lost.
+fn context_is(bits: u16) -> Vec<Step> {
+    live_is(store_mask(0xFFFF), bits)
+}
+
+fn live_is(open_other: Record, bits: u16) -> Vec<Step> {
+    let mut steps = vec![(entry_call(), 0), (open_other, 0), (store_field(READ, 0, !bits), 0)];
+    steps.extend([(return_call(), 0), (read(0), 9)]);
+    for one in ones(bits) {
+        steps.extend([(entry_call(), 0), (store_field(READ, 0, one), 0), (return_call(), 0)]);
+        steps.push((read(0), 0));
+    }
+    steps
+}
+
+/// Each set bit alone.
+fn ones(bits: u16) -> Vec<u16> {
+    (0..16).map(|s| 1 << s).filter(|one| bits & one != 0).collect()
+}

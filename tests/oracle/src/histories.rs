@@ -1,0 +1,361 @@
+//! Legal images, and calls chosen by following the oracle's own machine, so that every
+//! answer that can occur does occur often.
+
+use crate::image::load;
+use crate::machine::{bit, prevailing, Machine, Page, MOST_SAVED};
+use crate::random::Random;
+use crate::run::step;
+use crate::write::*;
+
+/// A legal image, about so many calls, and at times a remainder.
+pub fn legal(random: &mut Random, calls: usize) -> Vec<u8> {
+    let plan = legal_plan(random);
+    let image = plan.image();
+    let mut rest = history(random, &image, calls);
+    if random.chance(30) {
+        let left = random.from_to(1, 5);
+        rest.extend((0..left).map(|_| random.byte()));
+    }
+    input(&image, &rest)
+}
+
+/// Sets of domains. Most are drawn from a few domains, so that fields and contexts overlap.
+#[derive(Clone, Copy)]
+struct Pool(u16);
+
+impl Pool {
+    fn new(random: &mut Random) -> Pool {
+        let mut domains = 0;
+        for _ in 0..random.from_to(1, 7) {
+            domains |= 1 << random.below(16);
+        }
+        Pool(domains)
+    }
+
+    fn bits(self, random: &mut Random) -> u16 {
+        match random.below(12) {
+            0 => 0,
+            1 => 0xFFFF,
+            2 => random.word(),
+            3 => 1 << random.below(16),
+            4 => random.word() & random.word(),
+            5 => self.0,
+            6 => self.0 | 1 << random.below(16),
+            7 => !self.0,
+            _ => self.0 & random.word(),
+        }
+    }
+}
+
+pub fn legal_plan(random: &mut Random) -> Plan {
+    let pool = Pool::new(random);
+    let exponent = random.from_to(5, 12);
+    let most = 128.min(65_536 >> exponent);
+    let page_count = match random.below(8) {
+        0 => 1,
+        1 => most,
+        2 => random.from_to(1, most),
+        _ => random.from_to(1, 8.min(most)),
+    };
+    let program_count = match random.below(6) {
+        0 => 1,
+        1 => 8,
+        _ => random.from_to(1, 8),
+    };
+    let pages = (0..page_count).map(|_| (pool.bits(random), pool.bits(random))).collect();
+    let programs = (0..program_count)
+        .map(|_| {
+            let mask = if random.chance(50) { 0xFFFF } else { pool.bits(random) };
+            (pool.bits(random), mask, u8::from(random.chance(15)))
+        })
+        .collect();
+    Plan { exponent: exponent as u8, pages, programs }
+}
+
+/// Records chosen one by one, each after the machine that the one before left.
+pub fn history(random: &mut Random, image: &[u8], calls: usize) -> Vec<u8> {
+    let machine = load(image).expect("the image is legal");
+    let pool = Pool::new(random);
+    // The image's domains matter most; a pool of their union keeps stores in touch with them.
+    let seen = machine.programs.iter().fold(0, |all, program| all | program.context);
+    let pool = if random.chance(80) { Pool(seen) } else { pool };
+    let nesting = random.chance(15);
+    let sinking = random.chance(25);
+    let mut history = History { random, machine, pool, nesting, sinking, records: Vec::new() };
+    for _ in 0..calls {
+        // In user mode at depth 8 with the flag set nothing can change any more.
+        if history.stuck() && history.random.chance(25) {
+            break;
+        }
+        history.one_call();
+    }
+    if calls > 0 && history.random.chance(50) {
+        if history.random.chance(50) {
+            history.show_fields();
+        }
+        history.show_programs();
+        history.show_fields();
+    }
+    history.records
+}
+
+struct History<'a> {
+    random: &'a mut Random,
+    machine: Machine,
+    pool: Pool,
+    /// Whether entries are to pile up.
+    nesting: bool,
+    /// Whether the mode store is to go to user mode above depth 0 as often as not.
+    /// No return leads below that depth again, so most runs keep away from it.
+    sinking: bool,
+    records: Vec<u8>,
+}
+
+const ENTRY: usize = 4;
+const RETURN: usize = 5;
+
+impl History<'_> {
+    fn put(&mut self, record: Record) -> u8 {
+        self.records.extend(record);
+        step(&mut self.machine, &record)
+    }
+
+    fn stuck(&self) -> bool {
+        self.machine.depth() == MOST_SAVED && self.machine.pending
+    }
+
+    fn one_call(&mut self) {
+        // Access, grant, revoke, mask, entry, return, switch, the four stores, an unknown kind.
+        let mut weights = match (self.machine.privileged(), self.machine.pending, self.machine.depth()) {
+            (false, false, _) => [30, 14, 14, 8, 9, 2, 3, 3, 2, 2, 3, 1],
+            (false, true, _) => [6, 3, 3, 3, 20, 1, 1, 1, 1, 1, 2, 1],
+            (true, _, 0) => [5, 2, 2, 2, 8, 3, 4, 5, 3, 3, 8, 1],
+            (true, _, 1) => [4, 2, 2, 2, 4, 16, 16, 5, 3, 3, 3, 1],
+            (true, _, _) => [4, 2, 2, 2, 6, 14, 4, 4, 2, 2, 3, 1],
+        };
+        if self.nesting {
+            weights[ENTRY] *= 6;
+            weights[RETURN] = weights[RETURN] / 2 + 1;
+        }
+        let kind = self.random.weighted(&weights) as u8 + 1;
+        let record = match kind {
+            1 => self.an_access(),
+            2 | 3 => self.a_grant_or_revoke(kind),
+            4 | 9 | 10 => record(kind, 0, 0, self.pool.bits(self.random)),
+            5 | 6 => record(kind, 0, 0, 0),
+            7 => record(kind, 0, 0, self.a_program()),
+            8 => record(kind, self.a_right(), self.a_page(), self.pool.bits(self.random)),
+            11 => record(kind, 0, 0, self.a_mode()),
+            _ => record(self.an_unknown_kind(), self.random.byte(), self.random.word(), self.random.word()),
+        };
+        let record = self.with_noise(record);
+        self.put(record);
+    }
+
+    /// Fills the unused parts of a record, which are to be ignored.
+    fn with_noise(&mut self, mut record: Record) -> Record {
+        if self.random.chance(40) {
+            let unused = match record[0] {
+                4 | 7 | 9 | 10 | 11 => 1..4,
+                5 | 6 => 1..6,
+                _ => 1..1,
+            };
+            record[unused].fill_with(|| self.random.byte());
+        }
+        record
+    }
+
+    fn a_right(&mut self) -> u8 {
+        if self.random.chance(94) {
+            self.random.below(2) as u8
+        } else {
+            let other = self.random.from_to(2, 255) as u8;
+            self.random.pick(&[2, 3, 128, 129, 255, other])
+        }
+    }
+
+    /// A number that is not below `limit`, often one that is below it in one byte alone.
+    fn too_large(&mut self, limit: usize) -> u16 {
+        let below = self.random.below(limit);
+        let uniform = self.random.word() | 0x8000;
+        self.random.pick(&[limit as u16, limit as u16 + 1, 65_535, 256 + below as u16, (below as u16 + 1) << 8, uniform])
+    }
+
+    fn a_page(&mut self) -> u16 {
+        let count = self.machine.pages.len();
+        match self.random.below(20) {
+            0 => self.too_large(count),
+            1 => count as u16,
+            2 => count as u16 - 1,
+            _ => self.random.below(count) as u16,
+        }
+    }
+
+    fn a_program(&mut self) -> u16 {
+        let count = self.machine.programs.len();
+        match self.random.below(10) {
+            0 => self.too_large(count),
+            1 => count as u16,
+            2 => self.machine.current as u16,
+            _ => self.random.below(count) as u16,
+        }
+    }
+
+    fn a_mode(&mut self) -> u16 {
+        if self.machine.depth() > 0 && !self.sinking && self.random.chance(90) {
+            return self.random.pick(&[1, 1, 1, 2, 256, 257, 65_535]);
+        }
+        match self.random.below(10) {
+            0 => self.random.pick(&[2, 3, 255, 256, 257, 512, 0x8000, 65_535]),
+            1 => self.random.word(),
+            2..=3 => 1,
+            _ => 0,
+        }
+    }
+
+    fn an_unknown_kind(&mut self) -> u8 {
+        let known = self.random.from_to(1, 11) as u8;
+        let other = self.random.from_to(12, 255) as u8;
+        self.random.pick(&[0, 12, 13, 255, 128 + known, 16 + known, other])
+    }
+
+    /// A page and right with the wanted property, searched from a random place on.
+    fn search(&mut self, wanted: impl Fn(&Machine, u16) -> bool) -> Option<(u8, u16)> {
+        let places = 2 * self.machine.pages.len();
+        let start = self.random.below(places);
+        for n in 0..places {
+            let place = (start + n) % places;
+            let (right, page) = ((place % 2) as u8, (place / 2) as u16);
+            if wanted(&self.machine, self.machine.field(right, Page(page))) {
+                return Some((right, page));
+            }
+        }
+        None
+    }
+
+    fn an_access(&mut self) -> Record {
+        let memory = self.machine.memory() as u32;
+        let inside = self.random.below(memory as usize) as u32;
+        match self.random.below(24) {
+            0 => return access(self.a_right(), memory - 1),
+            1 => return access(self.a_right(), memory),
+            2 => {
+                let far = (self.random.word() as u32) << 16;
+                let near = self.random.from_to(1, 300) as u32;
+                let address = self.random.pick(&[memory + near, 0x1_0000 | inside, far | inside, 0x0100_0000 | inside, u32::MAX, far]);
+                return access(self.a_right(), address);
+            }
+            3..=5 => return access(self.a_right(), inside),
+            _ => {}
+        }
+        let open = self.search(|machine, field| field & machine.local_context() != 0);
+        let shut = self.search(|machine, field| field & machine.local_context() == 0);
+        let found = if self.random.chance(75) { open.or(shut) } else { shut.or(open) };
+        let (right, page) = found.expect("every field is one or the other");
+        access(right, self.address_in(page))
+    }
+
+    /// An address in a page, often its first or its last.
+    fn address_in(&mut self, page: u16) -> u32 {
+        let size = self.machine.page_size() as u32;
+        let inside = self.random.below(size as usize) as u32;
+        u32::from(page) * size + self.random.pick(&[0, size - 1, inside])
+    }
+
+    fn a_grant_or_revoke(&mut self, kind: u8) -> Record {
+        let held = self.search(|machine, field| prevailing(field).is_some_and(|highest| bit(highest) & machine.local_context() != 0));
+        let (right, page) = match held {
+            Some(place) if self.random.chance(75) => place,
+            _ => (self.a_right(), self.a_page()),
+        };
+        let known = right < 2 && (page as usize) < self.machine.pages.len();
+        let highest = if known { prevailing(self.machine.field(right, Page(page))) } else { None };
+        let highest = highest.map_or(0, |domain| domain.0);
+        let domain = match self.random.below(20) {
+            0 => self.too_large(16),
+            1 => 16,
+            2..=3 => highest,
+            4 => self.random.from_to(0, highest as usize) as u16,
+            5..=6 => highest + 1,
+            7..=8 => self.random.below(16) as u16,
+            _ => self.random.from_to((highest as usize + 1).min(15), 15) as u16,
+        };
+        record(kind, right, page, domain)
+    }
+
+    /// Goes to privileged mode, or says that it cannot be reached.
+    fn to_privileged(&mut self) -> bool {
+        self.machine.privileged() || self.put(entry_call()) == 0
+    }
+
+    /// Goes to user mode, by returns as far as they lead.
+    fn to_user(&mut self) {
+        while self.machine.privileged() && self.machine.depth() > 0 {
+            self.put(return_call());
+        }
+        if self.machine.privileged() {
+            self.put(store_mode(0));
+        }
+    }
+
+    /// Accesses that tell what some fields hold: one of its domains alone, or all others.
+    fn show_fields(&mut self) {
+        for _ in 0..self.random.from_to(1, 16) {
+            if !self.to_privileged() {
+                return;
+            }
+            let page = self.random.below(self.machine.pages.len()) as u16;
+            let right = self.random.below(2) as u8;
+            let domains = self.one_or_others(self.machine.field(right, Page(page)));
+            self.put(store_context(domains));
+            self.put(store_mask(0xFFFF));
+            self.to_user();
+            let address = self.address_in(page);
+            self.put(access(right, address));
+        }
+    }
+
+    /// Turns of the programs, with accesses that tell the context or the mask each has.
+    fn show_programs(&mut self) {
+        for _ in 0..self.random.from_to(1, 12) {
+            if !self.to_privileged() {
+                return;
+            }
+            while self.machine.privileged() && self.machine.depth() > 1 {
+                self.put(return_call());
+            }
+            if !self.to_privileged() {
+                return;
+            }
+            if self.machine.depth() == 0 {
+                self.put(entry_call());
+            }
+            let program = self.random.below(self.machine.programs.len()) as u16;
+            self.put(switch(program));
+            let show_context = self.random.chance(50);
+            let shown = if show_context { self.machine.context } else { self.machine.mask };
+            let field = self.one_or_others(shown);
+            let page = self.random.below(self.machine.pages.len()) as u16;
+            let right = self.random.below(2) as u8;
+            if self.random.chance(70) {
+                self.put(store_field(right, page, field));
+                self.put(if show_context { store_mask(0xFFFF) } else { store_context(0xFFFF) });
+            }
+            self.put(return_call());
+            let address = self.address_in(page);
+            self.put(access(right, address));
+        }
+    }
+
+    fn one_or_others(&mut self, bits: u16) -> u16 {
+        if bits == 0 || self.random.chance(50) {
+            return !bits;
+        }
+        loop {
+            let one = 1 << self.random.below(16);
+            if bits & one != 0 {
+                return one;
+            }
+        }
+    }
+}

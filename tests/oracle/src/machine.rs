@@ -1,0 +1,277 @@
+//! The machine of document 01 and its eleven calls.
+//!
+//! The lists are as long as the counts say, so places beyond a count or the depth
+//! do not exist here. No answer of a run depends on them.
+
+pub const READ: u8 = 0;
+pub const WRITE: u8 = 1;
+
+pub const DOMAINS: u16 = 16;
+pub const MOST_PAGES: usize = 128;
+pub const MOST_PROGRAMS: usize = 8;
+pub const MOST_SAVED: usize = 8;
+pub const MOST_MEMORY: u64 = 65_536;
+
+/// A page number. It is a type of its own, since a grant names a page and a domain.
+#[derive(Clone, Copy, PartialEq, Eq, Debug)]
+pub struct Page(pub u16);
+
+/// A domain number. Domain 0 has the highest level.
+#[derive(Clone, Copy, PartialEq, Eq, Debug)]
+pub struct Domain(pub u16);
+
+#[derive(Clone, Copy, PartialEq, Eq, Debug)]
+pub enum Mode {
+    User,
+    Privileged,
+}
+
+/// The two fields of a page. Bit s of a field is domain s.
+#[derive(Clone, Copy, PartialEq, Eq, Debug)]
+pub struct Fields {
+    pub read: u16,
+    pub write: u16,
+}
+
+/// What the table stores for a program.
+#[derive(Clone, Copy, PartialEq, Eq, Debug)]
+pub struct Program {
+    pub context: u16,
+    pub mask: u16,
+    pub mode: Mode,
+}
+
+#[derive(Clone, PartialEq, Eq, Debug)]
+pub struct Machine {
+    pub exponent: u32,
+    /// The page count is its length.
+    pub pages: Vec<Fields>,
+    pub context: u16,
+    pub mask: u16,
+    pub mode: Mode,
+    pub pending: bool,
+    /// The depth is its length; the last saved mode stands last.
+    pub saved: Vec<Mode>,
+    /// The program count is its length.
+    pub programs: Vec<Program>,
+    pub current: usize,
+}
+
+/// Done or allowed, or the number of the condition that was met first.
+pub type Answer = Result<(), u8>;
+
+fn refuse_if(met: bool, number: u8) -> Answer {
+    if met {
+        Err(number)
+    } else {
+        Ok(())
+    }
+}
+
+/// The lowest-numbered domain in a field, which has the highest level in it.
+pub fn prevailing(field: u16) -> Option<Domain> {
+    (0..DOMAINS).find(|&s| bit(Domain(s)) & field != 0).map(Domain)
+}
+
+/// Only for domains 0 to 15.
+pub fn bit(domain: Domain) -> u16 {
+    1 << domain.0
+}
+
+impl Machine {
+    pub fn page_size(&self) -> u64 {
+        1 << self.exponent
+    }
+
+    pub fn memory(&self) -> u64 {
+        self.pages.len() as u64 * self.page_size()
+    }
+
+    pub fn local_context(&self) -> u16 {
+        self.context & self.mask
+    }
+
+    pub fn privileged(&self) -> bool {
+        self.mode == Mode::Privileged
+    }
+
+    pub fn depth(&self) -> usize {
+        self.saved.len()
+    }
+
+    /// Only for a right of 0 or 1 and a page below the page count.
+    pub fn field(&self, right: u8, page: Page) -> u16 {
+        let fields = &self.pages[page.0 as usize];
+        if right == READ {
+            fields.read
+        } else {
+            fields.write
+        }
+    }
+
+    fn set_field(&mut self, right: u8, page: Page, bits: u16) {
+        let fields = &mut self.pages[page.0 as usize];
+        if right == READ {
+            fields.read = bits;
+        } else {
+            fields.write = bits;
+        }
+    }
+
+    /// A loaded machine is sound and every call keeps it so; the check stands
+    /// in every call because document 01 puts it there.
+    pub fn sound(&self) -> bool {
+        (1..=MOST_PAGES).contains(&self.pages.len())
+            && (5..=12).contains(&self.exponent)
+            && self.memory() <= MOST_MEMORY
+            && self.depth() <= MOST_SAVED
+            && (1..=MOST_PROGRAMS).contains(&self.programs.len())
+            && self.current < self.programs.len()
+            && !(self.pending && self.privileged())
+    }
+
+    fn refuse_unsound(&self) -> Answer {
+        refuse_if(!self.sound(), 1)
+    }
+
+    fn refuse_right(&self, right: u8) -> Answer {
+        refuse_if(right != READ && right != WRITE, 2)
+    }
+
+    fn refuse_page(&self, page: Page) -> Answer {
+        refuse_if(page.0 as usize >= self.pages.len(), 4)
+    }
+
+    fn refuse_in_privileged_mode(&self) -> Answer {
+        refuse_if(self.privileged(), 6)
+    }
+
+    fn refuse_in_user_mode(&self) -> Answer {
+        refuse_if(!self.privileged(), 7)
+    }
+
+    fn refuse_pending(&self) -> Answer {
+        refuse_if(self.pending, 8)
+    }
+
+    pub fn access(&mut self, right: u8, address: u32) -> Answer {
+        self.refuse_unsound()?;
+        self.refuse_right(right)?;
+        refuse_if(u64::from(address) >= self.memory(), 3)?;
+        if self.privileged() {
+            return Ok(());
+        }
+        self.refuse_pending()?;
+        let page = Page((u64::from(address) / self.page_size()) as u16);
+        if self.field(right, page) & self.local_context() == 0 {
+            self.pending = true;
+            return Err(9);
+        }
+        Ok(())
+    }
+
+    /// Grant and revoke refuse alike.
+    fn refuse_command(&self, right: u8, page: Page, domain: Domain) -> Answer {
+        self.refuse_unsound()?;
+        self.refuse_right(right)?;
+        self.refuse_page(page)?;
+        refuse_if(domain.0 >= DOMAINS, 5)?;
+        self.refuse_in_privileged_mode()?;
+        self.refuse_pending()?;
+        // The prevailing domain comes from the whole field, not from the part in a context.
+        let Some(highest) = prevailing(self.field(right, page)) else {
+            return Err(11);
+        };
+        refuse_if(bit(highest) & self.local_context() == 0, 11)?;
+        refuse_if(domain.0 <= highest.0, 12)
+    }
+
+    pub fn grant(&mut self, right: u8, page: Page, domain: Domain) -> Answer {
+        self.refuse_command(right, page, domain)?;
+        self.set_field(right, page, self.field(right, page) | bit(domain));
+        Ok(())
+    }
+
+    pub fn revoke(&mut self, right: u8, page: Page, domain: Domain) -> Answer {
+        self.refuse_command(right, page, domain)?;
+        self.set_field(right, page, self.field(right, page) & !bit(domain));
+        Ok(())
+    }
+
+    pub fn mask_command(&mut self, mask: u16) -> Answer {
+        self.refuse_unsound()?;
+        self.refuse_in_privileged_mode()?;
+        self.refuse_pending()?;
+        self.mask = mask;
+        Ok(())
+    }
+
+    pub fn interrupt_entry(&mut self) -> Answer {
+        self.refuse_unsound()?;
+        refuse_if(self.depth() == MOST_SAVED, 13)?;
+        self.saved.push(self.mode);
+        self.mode = Mode::Privileged;
+        self.pending = false;
+        Ok(())
+    }
+
+    pub fn return_from_interrupt(&mut self) -> Answer {
+        self.refuse_unsound()?;
+        self.refuse_in_user_mode()?;
+        self.mode = self.saved.pop().ok_or(14)?;
+        Ok(())
+    }
+
+    pub fn switch(&mut self, named: u16) -> Answer {
+        self.refuse_unsound()?;
+        self.refuse_in_user_mode()?;
+        // A sound machine has an entry for its current program, so 10 waits behind 1.
+        refuse_if(self.current >= self.programs.len(), 10)?;
+        refuse_if(self.depth() != 1, 15)?;
+        refuse_if(named as usize >= self.programs.len(), 16)?;
+        // The saved mode is the program's own; the live one is the kernel's.
+        self.programs[self.current] = Program { context: self.context, mask: self.mask, mode: self.saved[0] };
+        // Read after the store, so that a switch to the current program changes only its entry.
+        let next = self.programs[named as usize];
+        self.context = next.context;
+        self.mask = next.mask;
+        self.saved[0] = next.mode;
+        self.current = named as usize;
+        Ok(())
+    }
+
+    pub fn store_field(&mut self, right: u8, page: Page, bits: u16) -> Answer {
+        self.refuse_unsound()?;
+        self.refuse_right(right)?;
+        self.refuse_page(page)?;
+        self.refuse_in_user_mode()?;
+        self.set_field(right, page, bits);
+        Ok(())
+    }
+
+    pub fn store_context(&mut self, context: u16) -> Answer {
+        self.refuse_unsound()?;
+        self.refuse_in_user_mode()?;
+        self.context = context;
+        Ok(())
+    }
+
+    pub fn store_mask(&mut self, mask: u16) -> Answer {
+        self.refuse_unsound()?;
+        self.refuse_in_user_mode()?;
+        self.mask = mask;
+        Ok(())
+    }
+
+    pub fn store_mode(&mut self, number: u16) -> Answer {
+        self.refuse_unsound()?;
+        let mode = match number {
+            0 => Mode::User,
+            1 => Mode::Privileged,
+            _ => return Err(17),
+        };
+        self.refuse_in_user_mode()?;
+        self.mode = mode;
+        Ok(())
+    }
+}

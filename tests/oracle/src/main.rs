@@ -1,0 +1,68 @@
+//! A second implementation of document 01, for tests alone. It shares no code with the core.
+
+mod cases;
+#[cfg(feature = "linked")]
+mod compare;
+mod histories;
+mod image;
+#[cfg(feature = "linked")]
+mod inputs;
+mod machine;
+mod random;
+mod run;
+#[cfg(test)]
+mod tests;
+mod write;
+
+use std::env;
+use std::io::{self, Read, Write};
+use std::process::ExitCode;
+
+const USAGE: &str = "usage: oracle text | answers | cases-input | cases-output | cases-list | compare SEED RUNS";
+
+fn main() -> ExitCode {
+    let arguments: Vec<String> = env::args().skip(1).collect();
+    let words: Vec<&str> = arguments.iter().map(String::as_str).collect();
+    let output = match words[..] {
+        ["text"] => run::text(&standard_input()).into_bytes(),
+        ["answers"] => {
+            let lines: String = run::answers(&standard_input()).iter().map(|answer| format!("{answer}\n")).collect();
+            lines.into_bytes()
+        }
+        ["cases-input"] => cases::file(),
+        ["cases-output"] => cases::output().into_bytes(),
+        ["cases-list"] => cases::listing().into_bytes(),
+        ["compare", seed, runs] => {
+            return match (seed.parse(), runs.parse()) {
+                (Ok(seed), Ok(runs)) => compare(seed, runs),
+                _ => fail("SEED and RUNS are decimal numbers"),
+            }
+        }
+        _ => return fail(USAGE),
+    };
+    match io::stdout().write_all(&output) {
+        Ok(()) => ExitCode::SUCCESS,
+        Err(error) => fail(&format!("standard output: {error}")),
+    }
+}
+
+fn standard_input() -> Vec<u8> {
+    let mut input = Vec::new();
+    io::stdin().read_to_end(&mut input).expect("standard input can be read");
+    input
+}
+
+fn fail(message: &str) -> ExitCode {
+    eprintln!("{message}");
+    ExitCode::from(2)
+}
+
+#[cfg(feature = "linked")]
+fn compare(seed: u64, runs: u64) -> ExitCode {
+    compare::compare(seed, runs)
+}
+
+#[cfg(not(feature = "linked"))]
+fn compare(_seed: u64, _runs: u64) -> ExitCode {
+    fail("compare needs the static library: build with the feature `linked`")
+}

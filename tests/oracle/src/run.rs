@@ -1,0 +1,129 @@
+//! The record decoder and the whole run: the answers, the text, the bench's answers.
+
+use crate::image::load;
+use crate::machine::{Answer, Domain, Machine, Page};
+
+pub const LONGEST_INPUT: usize = 32_768;
+pub const RECORD: usize = 6;
+
+#[derive(Clone, Copy, PartialEq, Eq, Debug)]
+pub enum Call {
+    Access { right: u8, address: u32 },
+    Grant { right: u8, page: Page, domain: Domain },
+    Revoke { right: u8, page: Page, domain: Domain },
+    Mask { mask: u16 },
+    Entry,
+    Return,
+    Switch { program: u16 },
+    StoreField { right: u8, page: Page, bits: u16 },
+    StoreContext { context: u16 },
+    StoreMask { mask: u16 },
+    StoreMode { number: u16 },
+}
+
+/// Reads six bytes: kind, right, A, B. A kind outside 1 to 11 is no call.
+pub fn decode(record: &[u8]) -> Option<Call> {
+    let right = record[1];
+    let a = u16::from(record[2]) * 256 + u16::from(record[3]);
+    let b = u16::from(record[4]) * 256 + u16::from(record[5]);
+    match record[0] {
+        1 => Some(Call::Access { right, address: u32::from(a) * 65_536 + u32::from(b) }),
+        2 => Some(Call::Grant { right, page: Page(a), domain: Domain(b) }),
+        3 => Some(Call::Revoke { right, page: Page(a), domain: Domain(b) }),
+        4 => Some(Call::Mask { mask: b }),
+        5 => Some(Call::Entry),
+        6 => Some(Call::Return),
+        7 => Some(Call::Switch { program: b }),
+        8 => Some(Call::StoreField { right, page: Page(a), bits: b }),
+        9 => Some(Call::StoreContext { context: b }),
+        10 => Some(Call::StoreMask { mask: b }),
+        11 => Some(Call::StoreMode { number: b }),
+        _ => None,
+    }
+}
+
+fn obey(machine: &mut Machine, call: Call) -> Answer {
+    match call {
+        Call::Access { right, address } => machine.access(right, address),
+        Call::Grant { right, page, domain } => machine.grant(right, page, domain),
+        Call::Revoke { right, page, domain } => machine.revoke(right, page, domain),
+        Call::Mask { mask } => machine.mask_command(mask),
+        Call::Entry => machine.interrupt_entry(),
+        Call::Return => machine.return_from_interrupt(),
+        Call::Switch { program } => machine.switch(program),
+        Call::StoreField { right, page, bits } => machine.store_field(right, page, bits),
+        Call::StoreContext { context } => machine.store_context(context),
+        Call::StoreMask { mask } => machine.store_mask(mask),
+        Call::StoreMode { number } => machine.store_mode(number),
+    }
+}
+
+/// One record: its answer, with the machine changed as it says.
+pub fn step(machine: &mut Machine, record: &[u8]) -> u8 {
+    let Some(call) = decode(record) else {
+        return 18;
+    };
+    match obey(machine, call) {
+        Ok(()) => 0,
+        Err(number) => number,
+    }
+}
+
+/// The image and the bytes after it. Input under 2 bytes counts as an empty image;
+/// where the input ends early, the bytes that are there are the image.
+pub fn split(input: &[u8]) -> (&[u8], &[u8]) {
+    if input.len() < 2 {
+        return (&[], &[]);
+    }
+    let declared = usize::from(input[0]) * 256 + usize::from(input[1]);
+    let rest = &input[2..];
+    rest.split_at(declared.min(rest.len()))
+}
+
+pub struct Run {
+    pub load: u8,
+    pub calls: Vec<u8>,
+    /// Whether a remainder of 1 to 5 bytes was met. After a refused load nothing more is read.
+    pub cut: bool,
+}
+
+/// The whole run over an input, or nothing where the input is too long.
+pub fn run(input: &[u8]) -> Option<Run> {
+    if input.len() > LONGEST_INPUT {
+        return None;
+    }
+    let (image, records) = split(input);
+    let mut machine = match load(image) {
+        Ok(machine) => machine,
+        Err(number) => return Some(Run { load: number, calls: Vec::new(), cut: false }),
+    };
+    let whole = records.chunks_exact(RECORD);
+    let cut = !whole.remainder().is_empty();
+    let calls = whole.map(|record| step(&mut machine, record)).collect();
+    Some(Run { load: 0, calls, cut })
+}
+
+/// What `pagerun` prints.
+pub fn text(input: &[u8]) -> String {
+    let Some(run) = run(input) else {
+        return String::from("long\n");
+    };
+    let mut text = format!("load {}\n", run.load);
+    for (before, answer) in run.calls.iter().enumerate() {
+        text += &format!("{} {}\n", before + 1, answer);
+    }
+    if run.cut {
+        text += "cut\n";
+    }
+    text
+}
+
+/// What the bench gets where its buffer is long enough: none for an input that is too long.
+pub fn answers(input: &[u8]) -> Vec<u8> {
+    let Some(run) = run(input) else {
+        return Vec::new();
+    };
+    let mut answers = vec![run.load];
+    answers.extend(run.calls);
+    answers
+}
