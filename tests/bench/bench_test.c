@@ -438,7 +438,7 @@ static void add_longest_image(void)
 
 /*
  * The input with the most answers: the shortest image, 5,455 calls and a
- * remainder of 5 bytes, 2 + 31 + 32,730 + 5 = 32,768. It is seven calls over
+ * remainder of 5 bytes, 2 + 31 + 32,730 + 5 = 32,768. Seven calls come over
  * and over. Their answers are the same in every round: of those that are
  * accepted, the mask command stores the mask of the image, and the grant sets
  * a bit that may be set already.

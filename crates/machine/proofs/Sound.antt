@@ -25,10 +25,15 @@ seven a b c d e f g h =
     let h₅ = and-left (a && b && c && d && e) f h₆ in
     let h₄ = and-left (a && b && c && d) e h₅ in
     let h₃ = and-left (a && b && c) d h₄ in
-    let h₂ = and-left (a && b) c h₃ in
-    (and-left a b h₂, and-right a b h₂, and-right (a && b) c h₃, and-right (a && b && c) d h₄,
-    and-right (a && b && c && d) e h₅, and-right (a && b && c && d && e) f h₆,
-    and-right (a && b && c && d && e && f) g h)
+    let h₂ = and-left (a && b) c h₃ in (
+      and-left a b h₂,
+      and-right a b h₂,
+      and-right (a && b) c h₃,
+      and-right (a && b && c) d h₄,
+      and-right (a && b && c && d) e h₅,
+      and-right (a && b && c && d && e) f h₆,
+      and-right (a && b && c && d && e && f) g h,
+    )
 
 four : (a b c d : Bool) → a && b && c && d ≡ true → (a ≡ true) × (b ≡ true) × (c ≡ true) × (d ≡ true)
 four a b c d h =
@@ -82,12 +87,31 @@ sound-facts m h =
       programs-most = leb-true _ _ (r .6);
       memory-most = leb-true _ _ (s .1);
       current-below = ltb-true _ _ (s .2);
-      calm = not-true calm (s .3)
+      calm = not-true calm (s .3);
     }
 
 pub facts-sound : (m : Machine) → Sound m → isSound m ≡ true
 unfolding isSound
 facts-sound m s =
-    rw (le-leb _ _ (s .pages-least), le-leb _ _ (s .pages-most), le-leb _ _ (s .exponent-least),
-    le-leb _ _ (s .exponent-most), le-leb _ _ (s .depth-most), le-leb _ _ (s .programs-least),
-    le-leb _ _ (s .programs-most), le-leb _ _ (s .memory-most), lt-ltb _ _ (s .current-below), s .calm)
+    rw (
+      le-leb _ _ (s .pages-least),
+      le-leb _ _ (s .pages-most),
+      le-leb _ _ (s .exponent-least),
+      le-leb _ _ (s .exponent-most),
+      le-leb _ _ (s .depth-most),
+      le-leb _ _ (s .programs-least),
+      le-leb _ _ (s .programs-most),
+      le-leb _ _ (s .memory-most),
+      lt-ltb _ _ (s .current-below),
+      s .calm,
+    )
+
+-- the number of a call on a sound machine may be worked out from a quantity that is 0 for an exponent out of range
+pub where-sound : (m : Machine) (number : ℕ → ℕ) (x : ℕ)
+    → pick (not (isSound m)) 1 (number (pick (leb (m .exponent) 12) x 0)) ≡ pick (not (isSound m)) 1 (number x)
+where-sound m number x = split (isSound m) refl
+  where
+    split : (b : Bool) → isSound m ≡ b
+        → pick (not b) 1 (number (pick (leb (m .exponent) 12) x 0)) ≡ pick (not b) 1 (number x)
+    split true e = rw (le-leb (m .exponent) 12 (sound-facts m e .exponent-most))
+    split false e = refl

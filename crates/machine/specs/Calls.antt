@@ -43,7 +43,7 @@ accessChecks m right address field =
     (not (isRight right) ⇒ 2)
     ∷ (leb (memorySize m) address ⇒ 3)
     ∷ pick (inPrivilegedMode m) []
-      ((m .registers .pending ⇒ 8) ∷ (eqb (bitAnd field (localContext (m .registers))) 0 ⇒ 9) ∷ [])
+    ((m .registers .pending ⇒ 8) ∷ (eqb (bitAnd field (localContext (m .registers))) 0 ⇒ 9) ∷ [])
 
 -- "Grant and revoke (right, page, domain s). .. 4 if the page is not below the page count; 5 if s is above 15; 6 in
 -- privileged mode; 8 if the flag is set; 11 if the prevailing domain is absent or outside the local context; 12 if s is

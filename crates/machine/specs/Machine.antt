@@ -31,7 +31,7 @@ zero =
       saved = replicate 8 noMode;
       programs = 0;
       current = 0;
-      table = replicate 8 noProgram
+      table = replicate 8 noProgram;
     }
 
 -- "a page has 2 to the e bytes": page count × page size
@@ -70,7 +70,7 @@ withFields fields m =
       saved = m .saved;
       programs = m .programs;
       current = m .current;
-      table = m .table
+      table = m .table;
     }
 
 abbrev pub withRegisters : Registers → Machine → Machine
@@ -84,7 +84,7 @@ withRegisters registers m =
       saved = m .saved;
       programs = m .programs;
       current = m .current;
-      table = m .table
+      table = m .table;
     }
 
 abbrev pub withStack : ℕ → List Saved → Machine → Machine
@@ -98,7 +98,7 @@ withStack depth saved m =
       saved = saved;
       programs = m .programs;
       current = m .current;
-      table = m .table
+      table = m .table;
     }
 
 abbrev pub withPrograms : ℕ → List Program → Machine → Machine
@@ -112,5 +112,5 @@ withPrograms current table m =
       saved = m .saved;
       programs = m .programs;
       current = current;
-      table = table
+      table = table;
     }

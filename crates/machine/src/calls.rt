@@ -1,14 +1,33 @@
 // The eleven calls (document 01, "Calls and what each refuses"). Each method has one shape: an array is indexed only in a
 // local, the number comes first, what an accepted call changes is chosen by it, and the answer is made once at the end.
-use rules::registers::{Mode, Registers};
-use rules::domains::{prevailing_of, with_bit, without_bit};
-use rules::decisions::{access_number, checked, command_number, entry_number, field_number, mask_number, mode_number, register_number, return_number, switch_number};
-use crate::record::{Answered, Domain, Machine, Page, Program, Saved, memory_size, page_of, place};
-
+use crate::record::Answered;
+use crate::record::Domain;
+use crate::record::Machine;
+use crate::record::Page;
+use crate::record::Program;
+use crate::record::Saved;
+use crate::record::memory_size;
+use crate::record::page_of;
+use crate::record::place;
+use rules::decisions::access_number;
+use rules::decisions::checked;
+use rules::decisions::command_number;
+use rules::decisions::entry_number;
+use rules::decisions::field_number;
+use rules::decisions::mask_number;
+use rules::decisions::mode_number;
+use rules::decisions::register_number;
+use rules::decisions::return_number;
+use rules::decisions::switch_number;
+use rules::domains::prevailing_of;
+use rules::domains::with_bit;
+use rules::domains::without_bit;
+use rules::registers::Mode;
+use rules::registers::Registers;
 ghost use mathlib.Core.Path.{_≡_};
 ghost use mathlib.Core.Bool.{not};
 ghost use Prim.Native.Nat.{_-_};
-ghost use Rattle.rules.specs.Domains.{prevailing};
+ghost use Rattle.rules.specs.Domains.{prevailing, withBit, withoutBit};
 ghost use Rattle.rules.specs.Refusals.{pick, first};
 ghost use Rattle.machine.specs.Machine.{isSound};
 ghost use Rattle.machine.specs.declared.record.Call.{Call};
@@ -19,6 +38,16 @@ fn chosen(done: bool, new: u16, old: u16) -> u16
     ensures { λ r. ⌜ r ≡ pick done new old ⌝ }
 {
     if done { new } else { old }
+}
+
+// A field with bit s set, or cleared.
+fn changed(granting: bool, field: u16, s: u16) -> u16
+    ensures { λ r. ⌜ r ≡ pick granting (withBit field s) (withoutBit field s) ⌝ }
+{
+    if granting {
+        return with_bit(field, s);
+    }
+    without_bit(field, s)
 }
 
 // The place below a depth.
@@ -43,7 +72,7 @@ fn mode_of(number: u16) -> Mode
 
 impl Machine {
     // The number of an access, from the field of that right to the address's page.
-    fn access_to(self, right: u8, address: u32, field: u16) -> u8
+    fn access_at(self, right: u8, address: u32, field: u16) -> u8
         ensures { λ r. ⌜ r ≡ pick (not (isSound self)) 1 (first (accessChecks self right address field)) ⌝ }
     {
         let registers = self.registers;
@@ -67,14 +96,17 @@ impl Machine {
         if at < 256 {
             field = fields[at];
         }
-        let number = self.access_to(right, address, field);
+        let number = self.access_at(right, address, field);
         let after = registers.or_where(number == 9, registers.with_pending(true));
         self.registers = after;
-        Answered { number, machine: self }
+        Answered {
+            number,
+            machine: self,
+        }
     }
 
     // The number of a grant or a revocation, from the field of that right to that page.
-    fn command(self, right: u8, page: Page, domain: Domain, field: u16) -> u8
+    fn change_number(self, right: u8, page: Page, domain: Domain, field: u16) -> u8
         ensures { λ r. ⌜ r ≡ pick (not (isSound self)) 1 (first (commandChecks self right page domain (prevailing field))) ⌝ }
     {
         let registers = self.registers;
@@ -91,8 +123,9 @@ impl Machine {
         checked(!self.sound(), number)
     }
 
-    pub fn grant(mut self, right: u8, page: Page, domain: Domain) -> Answered
-        ensures { λ r. ⌜ r ≡ callOf self (Call.Grant right page domain) ⌝ }
+    // Grant, or revoke: the two differ in the bit operation alone.
+    pub fn change_right(mut self, granting: bool, right: u8, page: Page, domain: Domain) -> Answered
+        ensures { λ r. ⌜ r ≡ callOf self (pick granting (Call.Grant right page domain) (Call.Revoke right page domain)) ⌝ }
     {
         let at = place(right, page.0 as u32);
         let mut fields = self.fields;
@@ -100,59 +133,67 @@ impl Machine {
         if at < 256 {
             field = fields[at];
         }
-        let number = self.command(right, page, domain, field);
+        let number = self.change_number(right, page, domain, field);
+        let bits = chosen(number == 0, changed(granting, field, domain.0), field);
         if at < 256 {
-            fields[at] = chosen(number == 0, with_bit(field, domain.0), field);
+            fields[at] = bits;
         }
         self.fields = fields;
-        Answered { number, machine: self }
+        Answered {
+            number,
+            machine: self,
+        }
     }
 
-    pub fn revoke(mut self, right: u8, page: Page, domain: Domain) -> Answered
+    pub fn grant(self, right: u8, page: Page, domain: Domain) -> Answered
+        ensures { λ r. ⌜ r ≡ callOf self (Call.Grant right page domain) ⌝ }
+    {
+        self.change_right(true, right, page, domain)
+    }
+
+    pub fn revoke(self, right: u8, page: Page, domain: Domain) -> Answered
         ensures { λ r. ⌜ r ≡ callOf self (Call.Revoke right page domain) ⌝ }
     {
-        let at = place(right, page.0 as u32);
-        let mut fields = self.fields;
-        let mut field: u16 = 0;
-        if at < 256 {
-            field = fields[at];
-        }
-        let number = self.command(right, page, domain, field);
-        if at < 256 {
-            fields[at] = chosen(number == 0, without_bit(field, domain.0), field);
-        }
-        self.fields = fields;
-        Answered { number, machine: self }
+        self.change_right(false, right, page, domain)
     }
 
     pub fn set_mask(mut self, mask: u16) -> Answered
         ensures { λ r. ⌜ r ≡ callOf self (Call.SetMask mask) ⌝ }
     {
         let registers = self.registers;
-        let number = checked(!self.sound(), mask_number(registers.privileged(), registers.pending));
+        let number = checked(
+            !self.sound(),
+            mask_number(registers.privileged(), registers.pending),
+        );
         let after = registers.or_where(number == 0, registers.with_mask(mask));
         self.registers = after;
-        Answered { number, machine: self }
+        Answered {
+            number,
+            machine: self,
+        }
     }
 
     // Interrupt entry.
     pub fn enter(mut self) -> Answered
         ensures { λ r. ⌜ r ≡ callOf self Call.Enter ⌝ }
     {
-        let registers = self.registers;
-        let mode = registers.mode;
+        let mut registers = self.registers;
         let mut depth = self.depth;
         let mut saved = self.saved;
         let number = checked(!self.sound(), entry_number(depth == Machine::DEPTH));
         if number == 0 && depth < 8 {
+            let mode = registers.mode;
             saved[depth as usize] = Saved { mode };
+            registers = registers.with_pending(false).with_mode(Mode::Privileged);
             depth += 1;
         }
-        let after = registers.or_where(number == 0, registers.with_pending(false).with_mode(Mode::Privileged));
-        self.registers = after;
+        self.registers = registers;
         self.depth = depth;
         self.saved = saved;
-        Answered { number, machine: self }
+        Answered {
+            number,
+            machine: self,
+        }
     }
 
     // Return from an interrupt.
@@ -163,7 +204,10 @@ impl Machine {
         let mut depth = self.depth;
         let mut saved = self.saved;
         let top = below(depth);
-        let number = checked(!self.sound(), return_number(!registers.privileged(), depth == 0));
+        let number = checked(
+            !self.sound(),
+            return_number(!registers.privileged(), depth == 0),
+        );
         if number == 0 && top < 8 {
             let last = saved[top];
             let mode = last.mode;
@@ -174,7 +218,10 @@ impl Machine {
         self.registers = registers;
         self.depth = depth;
         self.saved = saved;
-        Answered { number, machine: self }
+        Answered {
+            number,
+            machine: self,
+        }
     }
 
     // Switch to a program.
@@ -213,7 +260,10 @@ impl Machine {
         self.saved = saved;
         self.current = current;
         self.table = table;
-        Answered { number, machine: self }
+        Answered {
+            number,
+            machine: self,
+        }
     }
 
     // The kernel's store of a field.
@@ -223,15 +273,27 @@ impl Machine {
         let registers = self.registers;
         let at = place(right, page.0 as u32);
         let mut fields = self.fields;
+        let mut field: u16 = 0;
+        if at < 256 {
+            field = fields[at];
+        }
         let number = checked(
             !self.sound(),
-            field_number(!(right <= 1), !(page.0 < self.pages), !registers.privileged()),
+            field_number(
+                !(right <= 1),
+                !(page.0 < self.pages),
+                !registers.privileged(),
+            ),
         );
+        let after = chosen(number == 0, bits, field);
         if at < 256 {
-            fields[at] = chosen(number == 0, bits, fields[at]);
+            fields[at] = after;
         }
         self.fields = fields;
-        Answered { number, machine: self }
+        Answered {
+            number,
+            machine: self,
+        }
     }
 
     // The kernel's store of the global context.
@@ -242,7 +304,10 @@ impl Machine {
         let number = checked(!self.sound(), register_number(!registers.privileged()));
         let after = registers.or_where(number == 0, registers.with_context(bits));
         self.registers = after;
-        Answered { number, machine: self }
+        Answered {
+            number,
+            machine: self,
+        }
     }
 
     // The kernel's store of the mask.
@@ -253,7 +318,10 @@ impl Machine {
         let number = checked(!self.sound(), register_number(!registers.privileged()));
         let after = registers.or_where(number == 0, registers.with_mask(bits));
         self.registers = after;
-        Answered { number, machine: self }
+        Answered {
+            number,
+            machine: self,
+        }
     }
 
     // The kernel's store of the mode.
@@ -261,9 +329,15 @@ impl Machine {
         ensures { λ r. ⌜ r ≡ callOf self (Call.StoreMode mode) ⌝ }
     {
         let registers = self.registers;
-        let number = checked(!self.sound(), mode_number(!(mode <= 1), !registers.privileged()));
+        let number = checked(
+            !self.sound(),
+            mode_number(!(mode <= 1), !registers.privileged()),
+        );
         let after = registers.or_where(number == 0, registers.with_mode(mode_of(mode)));
         self.registers = after;
-        Answered { number, machine: self }
+        Answered {
+            number,
+            machine: self,
+        }
     }
 }

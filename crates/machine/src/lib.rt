@@ -1,5 +1,11 @@
 // The machine and its calls (document 01): every call takes the machine by value and gives it back with its answer.
-pub mod record;
 pub mod calls;
+pub mod record;
 
-pub use record::{Answered, Call, Domain, Machine, Page, Program, Saved};
+pub use record::Answered;
+pub use record::Call;
+pub use record::Domain;
+pub use record::Machine;
+pub use record::Page;
+pub use record::Program;
+pub use record::Saved;

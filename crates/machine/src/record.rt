@@ -1,6 +1,6 @@
 // The machine (document 01, "The machine").
-use rules::registers::{Mode, Registers};
-
+use rules::registers::Mode;
+use rules::registers::Registers;
 ghost use mathlib.Core.Path.{_≡_};
 ghost use Prim.Native.Nat.{_*_, _^_, _/_};
 ghost use lib.Dec.{leb};
@@ -61,8 +61,11 @@ pub enum Call {
 
 impl Machine {
     pub const DOMAINS: u16 = 16;
+
     pub const PAGES: u16 = 128;
+
     pub const PROGRAMS: u16 = 8;
+
     pub const DEPTH: u8 = 8;
 
     // The machine in which every number is zero, every mode user and the flag clear.

@@ -4,7 +4,6 @@ use mathlib.Core.Bool.{Bool, true, false}
 use mathlib.Core.List.{List, [], _∷_}
 
 infix 20 _⇒_
-
 -- a condition and the number that a call is refused with where the condition is met: `condition ⇒ number`
 pub data Check : Type 0 where
   _⇒_ : Bool → ℕ → Check

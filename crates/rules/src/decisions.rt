@@ -14,7 +14,13 @@ pub fn checked(unsound: bool, number: u8) -> u8
     number
 }
 
-pub fn access_number(badright: bool, outside: bool, privileged: bool, pending: bool, denied: bool) -> u8
+pub fn access_number(
+    badright: bool,
+    outside: bool,
+    privileged: bool,
+    pending: bool,
+    denied: bool,
+) -> u8
     ensures { λ r. ⌜ r ≡ first ((badright ⇒ 2) ∷ (outside ⇒ 3) ∷ pick privileged [] ((pending ⇒ 8) ∷ (denied ⇒ 9) ∷ [])) ⌝ }
 {
     if badright {

@@ -42,6 +42,7 @@ impl Registers {
     {
         self.context & self.mask
     }
+
     pub fn with_context(self, bits: u16) -> Registers
         ensures { λ r. ⌜ r ≡ withContext bits self ⌝ }
     {

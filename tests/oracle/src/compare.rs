@@ -108,13 +108,12 @@ pub fn compare(seed: u64, runs: u64) -> ExitCode {
             }
         }
     }
-    let good = table.report();
-    println!("compare: {runs} inputs, {} calls, 0 differences", table.calls());
-    if good {
-        ExitCode::SUCCESS
-    } else {
-        ExitCode::FAILURE
+    if !table.report() {
+        println!("compare: no difference, but the answers named above were not tried as they must be");
+        return ExitCode::FAILURE;
     }
+    println!("compare: {runs} inputs, {} calls, 0 differences", table.calls());
+    ExitCode::SUCCESS
 }
 
 /// Each input has a generator of its own, so that one can be repeated alone.
@@ -126,7 +125,7 @@ fn generator(seed: u64, number: u64) -> Random {
 /// Buffer lengths around the one needed. The needed length is always tried.
 fn rooms(random: &mut Random, needed: usize) -> [usize; 3] {
     let around = [0, 1, needed.saturating_sub(1), needed + 1];
-    let large = needed + random.from_to(2, 600);
+    let large = needed + random.between(2, 600);
     [needed, random.pick(&around), random.pick(&[large, 6_000, needed / 2])]
 }
 
@@ -134,15 +133,17 @@ const GUARD: usize = 64;
 
 /// One call of the library, with guard bytes in front of the buffer and behind it.
 fn check(random: &mut Random, input: &[u8], answers: &[u8], room: usize) -> Result<(), String> {
-    // The guard behind takes all answers, so that a library that overruns is caught and not only crashes.
-    let behind = answers.len() + GUARD;
+    // The guard behind has room for an answer to every record, so that a library that overruns is caught.
+    let behind = input.len() / run::RECORD + GUARD;
     // No answer is above 127, so a byte that was written shows.
     let before: Vec<u8> = (0..GUARD + room + behind).map(|_| random.byte() | 128).collect();
     let lent_input = input.to_vec();
     let mut buffer = before.clone();
-    let lent = &mut buffer[GUARD..];
-    // SAFETY: the input has input.len() bytes and the buffer at least `room`.
-    let count = unsafe { bench_run(lent_input.as_ptr(), lent_input.len(), lent.as_mut_ptr(), room) };
+    // SAFETY: the input has that many bytes, and the buffer more than `room` after its first guard.
+    let count = unsafe {
+        let lent = buffer.as_mut_ptr().add(GUARD);
+        bench_run(lent_input.as_ptr(), lent_input.len(), lent, room)
+    };
 
     let due: &[u8] = if answers.len() <= room { answers } else { &[] };
     if lent_input != input {
@@ -150,27 +151,30 @@ fn check(random: &mut Random, input: &[u8], answers: &[u8], room: usize) -> Resu
     }
     let mut expected = before;
     expected[GUARD..GUARD + due.len()].copy_from_slice(due);
-    if let Some(at) = (0..buffer.len()).find(|&at| buffer[at] != expected[at]) {
-        return Err(place(input, due, room, at, buffer[at], expected[at], count));
+    let differs = (0..buffer.len()).find(|&at| buffer[at] != expected[at]);
+    if differs.is_none() && count == due.len() {
+        return Ok(());
     }
-    if count != due.len() {
-        return Err(format!("the count is {}, the library's is {count}", due.len()));
-    }
-    Ok(())
+    let found = match differs {
+        Some(at) => place(input, due, room, at, buffer[at], expected[at]),
+        None => String::from("the bytes are right"),
+    };
+    let counts = format!("the count is {}, the library's is {count}", due.len());
+    let bytes = &buffer[GUARD..GUARD + room.min(count.max(due.len()))];
+    Err(format!("{found}\n{counts}\nlibrary's buffer:  {bytes:?}"))
 }
 
 /// Says in words where the buffer first differs.
-fn place(input: &[u8], due: &[u8], room: usize, at: usize, got: u8, expected: u8, count: usize) -> String {
-    let counts = format!("the count is {}, the library's is {count}", due.len());
+fn place(input: &[u8], due: &[u8], room: usize, at: usize, got: u8, expected: u8) -> String {
     if at < GUARD {
-        return format!("the library wrote {got} at {} bytes in front of the buffer; {counts}", GUARD - at);
+        return format!("the library wrote {got} at {} bytes in front of the buffer", GUARD - at);
     }
     let at = at - GUARD;
     if at >= room {
-        return format!("the library wrote {got} at byte {at}, behind the buffer; {counts}");
+        return format!("the library wrote {got} at byte {at}, behind the buffer");
     }
     if at >= due.len() {
-        return format!("the library wrote {got} at byte {at}, past the count; {counts}");
+        return format!("the library wrote {got} at byte {at}, past the count");
     }
     let what = if at == 0 {
         String::from("load")
@@ -179,7 +183,7 @@ fn place(input: &[u8], due: &[u8], room: usize, at: usize, got: u8, expected: u8
         let record = &records[run::RECORD * (at - 1)..][..run::RECORD];
         format!("call {at}, record {}", hex(record))
     };
-    format!("{what}: the oracle answers {expected}, the library {got}; {counts}")
+    format!("{what}: the oracle answers {expected}, the library {got}")
 }
 
 fn hex(bytes: &[u8]) -> String {

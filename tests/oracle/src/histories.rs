@@ -13,7 +13,7 @@ pub fn legal(random: &mut Random, calls: usize) -> Vec<u8> {
     let image = plan.image();
     let mut rest = history(random, &image, calls);
     if random.chance(30) {
-        let left = random.from_to(1, 5);
+        let left = random.between(1, 5);
         rest.extend((0..left).map(|_| random.byte()));
     }
     input(&image, &rest)
@@ -26,7 +26,7 @@ struct Pool(u16);
 impl Pool {
     fn new(random: &mut Random) -> Pool {
         let mut domains = 0;
-        for _ in 0..random.from_to(1, 7) {
+        for _ in 0..random.between(1, 7) {
             domains |= 1 << random.below(16);
         }
         Pool(domains)
@@ -49,18 +49,18 @@ impl Pool {
 
 pub fn legal_plan(random: &mut Random) -> Plan {
     let pool = Pool::new(random);
-    let exponent = random.from_to(5, 12);
+    let exponent = random.between(5, 12);
     let most = 128.min(65_536 >> exponent);
     let page_count = match random.below(8) {
         0 => 1,
         1 => most,
-        2 => random.from_to(1, most),
-        _ => random.from_to(1, 8.min(most)),
+        2 => random.between(1, most),
+        _ => random.between(1, 8.min(most)),
     };
     let program_count = match random.below(6) {
         0 => 1,
         1 => 8,
-        _ => random.from_to(1, 8),
+        _ => random.between(1, 8),
     };
     let pages = (0..page_count).map(|_| (pool.bits(random), pool.bits(random))).collect();
     let programs = (0..program_count)
@@ -169,7 +169,7 @@ impl History<'_> {
         if self.random.chance(94) {
             self.random.below(2) as u8
         } else {
-            let other = self.random.from_to(2, 255) as u8;
+            let other = self.random.between(2, 255) as u8;
             self.random.pick(&[2, 3, 128, 129, 255, other])
         }
     }
@@ -178,7 +178,14 @@ impl History<'_> {
     fn too_large(&mut self, limit: usize) -> u16 {
         let below = self.random.below(limit);
         let uniform = self.random.word() | 0x8000;
-        self.random.pick(&[limit as u16, limit as u16 + 1, 65_535, 256 + below as u16, (below as u16 + 1) << 8, uniform])
+        self.random.pick(&[
+            limit as u16,
+            limit as u16 + 1,
+            65_535,
+            256 + below as u16,
+            (below as u16 + 1) << 8,
+            uniform,
+        ])
     }
 
     fn a_page(&mut self) -> u16 {
@@ -214,8 +221,8 @@ impl History<'_> {
     }
 
     fn an_unknown_kind(&mut self) -> u8 {
-        let known = self.random.from_to(1, 11) as u8;
-        let other = self.random.from_to(12, 255) as u8;
+        let known = self.random.between(1, 11) as u8;
+        let other = self.random.between(12, 255) as u8;
         self.random.pick(&[0, 12, 13, 255, 128 + known, 16 + known, other])
     }
 
@@ -241,8 +248,15 @@ impl History<'_> {
             1 => return access(self.a_right(), memory),
             2 => {
                 let far = (self.random.word() as u32) << 16;
-                let near = self.random.from_to(1, 300) as u32;
-                let address = self.random.pick(&[memory + near, 0x1_0000 | inside, far | inside, 0x0100_0000 | inside, u32::MAX, far]);
+                let near = self.random.between(1, 300) as u32;
+                let address = self.random.pick(&[
+                    memory + near,
+                    0x1_0000 | inside,
+                    far | inside,
+                    0x0100_0000 | inside,
+                    u32::MAX,
+                    far,
+                ]);
                 return access(self.a_right(), address);
             }
             3..=5 => return access(self.a_right(), inside),
@@ -263,7 +277,9 @@ impl History<'_> {
     }
 
     fn a_grant_or_revoke(&mut self, kind: u8) -> Record {
-        let held = self.search(|machine, field| prevailing(field).is_some_and(|highest| bit(highest) & machine.local_context() != 0));
+        let held = self.search(|machine, field| {
+            prevailing(field).is_some_and(|highest| bit(highest) & machine.local_context() != 0)
+        });
         let (right, page) = match held {
             Some(place) if self.random.chance(75) => place,
             _ => (self.a_right(), self.a_page()),
@@ -275,21 +291,21 @@ impl History<'_> {
             0 => self.too_large(16),
             1 => 16,
             2..=3 => highest,
-            4 => self.random.from_to(0, highest as usize) as u16,
+            4 => self.random.between(0, highest as usize) as u16,
             5..=6 => highest + 1,
             7..=8 => self.random.below(16) as u16,
-            _ => self.random.from_to((highest as usize + 1).min(15), 15) as u16,
+            _ => self.random.between((highest as usize + 1).min(15), 15) as u16,
         };
         record(kind, right, page, domain)
     }
 
     /// Goes to privileged mode, or says that it cannot be reached.
-    fn to_privileged(&mut self) -> bool {
+    fn enter_privileged_mode(&mut self) -> bool {
         self.machine.privileged() || self.put(entry_call()) == 0
     }
 
     /// Goes to user mode, by returns as far as they lead.
-    fn to_user(&mut self) {
+    fn enter_user_mode(&mut self) {
         while self.machine.privileged() && self.machine.depth() > 0 {
             self.put(return_call());
         }
@@ -300,8 +316,8 @@ impl History<'_> {
 
     /// Accesses that tell what some fields hold: one of its domains alone, or all others.
     fn show_fields(&mut self) {
-        for _ in 0..self.random.from_to(1, 16) {
-            if !self.to_privileged() {
+        for _ in 0..self.random.between(1, 16) {
+            if !self.enter_privileged_mode() {
                 return;
             }
             let page = self.random.below(self.machine.pages.len()) as u16;
@@ -309,7 +325,7 @@ impl History<'_> {
             let domains = self.one_or_others(self.machine.field(right, Page(page)));
             self.put(store_context(domains));
             self.put(store_mask(0xFFFF));
-            self.to_user();
+            self.enter_user_mode();
             let address = self.address_in(page);
             self.put(access(right, address));
         }
@@ -317,14 +333,14 @@ impl History<'_> {
 
     /// Turns of the programs, with accesses that tell the context or the mask each has.
     fn show_programs(&mut self) {
-        for _ in 0..self.random.from_to(1, 12) {
-            if !self.to_privileged() {
+        for _ in 0..self.random.between(1, 12) {
+            if !self.enter_privileged_mode() {
                 return;
             }
             while self.machine.privileged() && self.machine.depth() > 1 {
                 self.put(return_call());
             }
-            if !self.to_privileged() {
+            if !self.enter_privileged_mode() {
                 return;
             }
             if self.machine.depth() == 0 {

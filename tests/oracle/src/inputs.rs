@@ -23,9 +23,9 @@ pub fn any(random: &mut Random) -> Vec<u8> {
 fn run_length(random: &mut Random) -> usize {
     match random.below(10) {
         0 => 0,
-        1..=3 => random.from_to(1, 20),
-        4..=8 => random.from_to(20, 150),
-        _ => random.from_to(150, 400),
+        1..=3 => random.between(1, 20),
+        4..=8 => random.between(20, 150),
+        _ => random.between(150, 400),
     }
 }
 
@@ -44,16 +44,16 @@ fn damaged(random: &mut Random) -> Vec<u8> {
             let at = random.below(22);
             image[at] = if random.chance(50) { image[at].wrapping_add(1) } else { image[at].wrapping_sub(1) };
         }
-        3 => image.truncate(last + 1 - random.from_to(1, 8)),
+        3 => image.truncate(last + 1 - random.between(1, 8)),
         4 => image.truncate(random.below(last + 1)),
-        5 => image.extend((0..random.from_to(1, 8)).map(|n| (n % 3) as u8)),
+        5 => image.extend((0..random.between(1, 8)).map(|n| (n % 3) as u8)),
         6 => {
             let near = length.wrapping_add(random.pick(&[1, 2, 6, 256, 65_535, 65_534]));
             let declared = random.pick(&[near, length.swap_bytes(), 0, 65_535]);
             return declaring(declared, &image, &rest);
         }
         7 => {
-            let declared = length + random.from_to(1, 40_000) as u16;
+            let declared = length + random.between(1, 40_000) as u16;
             return declaring(declared, &image, &[]);
         }
         8 => {
@@ -61,13 +61,14 @@ fn damaged(random: &mut Random) -> Vec<u8> {
             return whole[..random.below(whole.len() + 1)].to_vec();
         }
         9 => {
-            // A mode byte; at times the last byte of the image too.
+            // A mode byte above 1 in one of the programs.
             let program = random.below(plan.programs.len());
             plan.programs[program].2 = random.pick(&[2, 3, 128, 255]);
             image = plan.image();
         }
         10 => {
-            let (at, byte) = random.pick(&[(18, 0), (18, 129), (19, 4), (19, 13), (19, 32), (20, 0), (20, 9), (21, 1), (21, 128)]);
+            let (at, byte) =
+                random.pick(&[(18, 0), (18, 129), (19, 4), (19, 13), (19, 32), (20, 0), (20, 9), (21, 1), (21, 128)]);
             image[at] = byte;
         }
         11 => {
@@ -77,14 +78,14 @@ fn damaged(random: &mut Random) -> Vec<u8> {
                 1 => plan.pages.resize(random.pick(&[0, 129, 130]), (1, 1)),
                 2 => plan.programs.resize(random.pick(&[0, 9, 10]), (1, 1, 0)),
                 _ => {
-                    plan.exponent = random.from_to(10, 12) as u8;
+                    plan.exponent = random.between(10, 12) as u8;
                     plan.pages.resize((65_536 >> plan.exponent) + random.below(3), (1, 1));
                 }
             }
             image = plan.image();
         }
         12 => {
-            // Two 16-bit fields' halves exchanged are worth a case of their own: low byte first.
+            // An offset or a length low byte first.
             let at = random.pick(&[2, 4, 8, 10, 14, 16]);
             image.swap(at, at + 1);
         }
@@ -134,7 +135,7 @@ fn full(random: &mut Random) -> Vec<u8> {
 
 fn over_long(random: &mut Random) -> Vec<u8> {
     let mut bytes = legal(random, 20);
-    let more = random.from_to(2, 40_000);
+    let more = random.between(2, 40_000);
     bytes.resize(LONGEST_INPUT + random.pick(&[1, 1, 2, 6, more]), 5);
     bytes
 }

@@ -35,10 +35,14 @@ fn the_sample_loads_to_the_machine_it_describes() {
     let machine = loaded();
     assert!(machine.sound());
     assert_eq!((machine.pages.len(), machine.exponent, machine.memory()), (3, 8, 768));
-    let fields: Vec<u16> = (0..3).flat_map(|page| [machine.field(READ, Page(page)), machine.field(WRITE, Page(page))]).collect();
+    let fields: Vec<u16> =
+        (0..3).flat_map(|page| [machine.field(READ, Page(page)), machine.field(WRITE, Page(page))]).collect();
     assert_eq!(fields, [0x0009, 0x0000, 0x000A, 0x0002, 0x000C, 0x0004]);
     assert_eq!((machine.context, machine.mask, machine.mode), (0x0007, 0x0003, Mode::User));
-    assert_eq!((machine.programs[1].context, machine.programs[1].mask, machine.programs[1].mode), (0x0008, 0xFFFF, Mode::User));
+    assert_eq!(
+        (machine.programs[1].context, machine.programs[1].mask, machine.programs[1].mode),
+        (0x0008, 0xFFFF, Mode::User)
+    );
     assert_eq!((machine.programs.len(), machine.current, machine.depth(), machine.pending), (2, 0, 0, false));
 }
 
@@ -142,7 +146,8 @@ fn the_stored_cases_reach_every_answer_that_can_occur() {
         (10, &[0, 7]),
         (11, &[0, 7, 17]),
     ];
-    let expected: BTreeSet<(u8, u8)> = can_occur.iter().flat_map(|(kind, list)| list.iter().map(|answer| (*kind, *answer))).collect();
+    let expected: BTreeSet<(u8, u8)> =
+        can_occur.iter().flat_map(|(kind, list)| list.iter().map(|answer| (*kind, *answer))).collect();
     assert_eq!(reached, expected);
     assert_eq!(load_reached, BTreeSet::from([0, 20, 21, 22, 23, 24, 25]));
 }

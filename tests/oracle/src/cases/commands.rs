@@ -135,7 +135,8 @@ fn access_addresses(cases: &mut Cases) {
     cases.run(
         "access: byte order in the address, 0x0100 is page 8 and 0x0200 page 16",
         &small(&pages, 1, 1),
-        &[vec![(read(0x0100), 0), (write(0x0200), 0), (read(0x0001), 9)], clear_flag(), vec![(write(0x0002), 9)]].concat(),
+        &[vec![(read(0x0100), 0), (write(0x0200), 0), (read(0x0001), 9)], clear_flag(), vec![(write(0x0002), 9)]]
+            .concat(),
     );
     let mut pages = vec![(0, 0); 128];
     pages[127] = (0x0100, 0x0200);
@@ -164,13 +165,33 @@ fn access_contexts(cases: &mut Cases) {
     let staircase: Vec<(u16, u16)> = (0..16).map(|s| (1 << s, 1 << (15 - s))).collect();
     let reversed = 0xA53Cu16.reverse_bits();
     cases.run("access: the context bit by bit, READ", &small(&staircase, 0xA53C, 0xFFFF), &bit_by_bit(READ, 0xA53C));
-    cases.run("access: the context bit by bit, WRITE", &small(&staircase, 0xA53C, 0xFFFF), &bit_by_bit(WRITE, reversed));
+    cases.run(
+        "access: the context bit by bit, WRITE",
+        &small(&staircase, 0xA53C, 0xFFFF),
+        &bit_by_bit(WRITE, reversed),
+    );
     cases.run("access: the mask bit by bit", &small(&staircase, 0xFFFF, 0x1E72), &bit_by_bit(READ, 0x1E72));
     cases.run("access: context AND mask bit by bit", &small(&staircase, 0x7A1F, 0xC6F3), &bit_by_bit(READ, 0x4213));
-    cases.run("access 9: no domain in the mask", &small(&[(0xFFFF, 0xFFFF)], 0xFFFF, 0x0000), &[(read(0), 9), (write(0), 8)]);
-    cases.run("access 9: no domain in the context", &small(&[(0xFFFF, 0xFFFF)], 0x0000, 0xFFFF), &[(write(0), 9), (read(0), 8)]);
-    cases.run("access 9: context and mask have no domain in common", &small(&[(0xFFFF, 0xFFFF)], 0xF0F0, 0x0F0F), &[(read(0), 9)]);
-    cases.run("access 9: an empty field, all domains in the local context", &small(&[(0, 0xFFFF)], 0xFFFF, 0xFFFF), &[(read(0), 9)]);
+    cases.run(
+        "access 9: no domain in the mask",
+        &small(&[(0xFFFF, 0xFFFF)], 0xFFFF, 0x0000),
+        &[(read(0), 9), (write(0), 8)],
+    );
+    cases.run(
+        "access 9: no domain in the context",
+        &small(&[(0xFFFF, 0xFFFF)], 0x0000, 0xFFFF),
+        &[(write(0), 9), (read(0), 8)],
+    );
+    cases.run(
+        "access 9: context and mask have no domain in common",
+        &small(&[(0xFFFF, 0xFFFF)], 0xF0F0, 0x0F0F),
+        &[(read(0), 9)],
+    );
+    cases.run(
+        "access 9: an empty field, all domains in the local context",
+        &small(&[(0, 0xFFFF)], 0xFFFF, 0xFFFF),
+        &[(read(0), 9)],
+    );
 }
 
 /// Grant and revoke refuse alike, so their refusals are written once.
@@ -226,8 +247,11 @@ fn command_refusals(cases: &mut Cases, command: &Command) {
     cases.run(
         &format!("{name} 6: in privileged mode, and the field stays"),
         &sample(),
-        &[vec![(entry_call(), 0), (call(READ, 0, 3), 6), (call(READ, 0, 4), 6), (return_call(), 0)], field_is(READ, 0, 8, 9)]
-            .concat(),
+        &[
+            vec![(entry_call(), 0), (call(READ, 0, 3), 6), (call(READ, 0, 4), 6), (return_call(), 0)],
+            field_is(READ, 0, 8, 9),
+        ]
+        .concat(),
     );
     cases.run(
         &format!("{name} 8: with the flag set, and the field stays"),
@@ -237,13 +261,18 @@ fn command_refusals(cases: &mut Cases, command: &Command) {
     cases.run(
         &format!("{name} 11: an empty field, and it stays empty"),
         &small(&[(0, 0)], 0xFFFF, 0xFFFF),
-        &[vec![(call(READ, 0, 0), 11), (call(READ, 0, 15), 11), (call(WRITE, 0, 1), 11)], field_is(READ, 0, 5, 0)].concat(),
+        &[vec![(call(READ, 0, 0), 11), (call(READ, 0, 15), 11), (call(WRITE, 0, 1), 11)], field_is(READ, 0, 5, 0)]
+            .concat(),
     );
     cases.run(
         &format!("{name} 11: the prevailing domain is in the field but not in the context, though a lower one is"),
         &sample(),
-        &[turn(1), vec![(call(READ, 0, 10), 11), (call(READ, 2, 10), 11), (call(READ, 0, 3), 11)], field_is(READ, 0, 8, 9)]
-            .concat(),
+        &[
+            turn(1),
+            vec![(call(READ, 0, 10), 11), (call(READ, 2, 10), 11), (call(READ, 0, 3), 11)],
+            field_is(READ, 0, 8, 9),
+        ]
+        .concat(),
     );
     cases.run(
         &format!("{name} 11: the prevailing domain is in the context and masked out"),
@@ -306,7 +335,13 @@ fn command_levels(cases: &mut Cases, command: &Command) {
     cases.run(
         &format!("{name} 12: at the prevailing domain's level and above it, 0 just below; the flag stays clear"),
         &sample(),
-        &[(call(READ, 1, 1), 12), (call(READ, 1, 0), 12), (call(WRITE, 1, 1), 12), (call(READ, 1, 2), 0), (read(256), 0)],
+        &[
+            (call(READ, 1, 1), 12),
+            (call(READ, 1, 0), 12),
+            (call(WRITE, 1, 1), 12),
+            (call(READ, 1, 2), 0),
+            (read(256), 0),
+        ],
     );
     cases.run(
         &format!("{name}: domain 15 prevails, no domain is below it"),
@@ -318,7 +353,20 @@ fn command_levels(cases: &mut Cases, command: &Command) {
         .concat(),
     );
     // Domain 4 prevails in 0x2430; the sweep takes every domain in turn.
-    let levels: Vec<Step> = (0..17).map(|s| (call(WRITE, 1, s), if s == 16 { 5 } else if s <= 4 { 12 } else { 0 })).collect();
+    let levels: Vec<Step> = (0..17)
+        .map(|s| {
+            (
+                call(WRITE, 1, s),
+                if s == 16 {
+                    5
+                } else if s <= 4 {
+                    12
+                } else {
+                    0
+                },
+            )
+        })
+        .collect();
     let left = if name == "grant" { 0xFFF0 } else { 0x0010 };
     cases.run(
         &format!("{name}: every domain in turn on WRITE, field 0x2430 becomes {left:#06x}"),
@@ -390,8 +438,11 @@ fn grants_and_revokes(cases: &mut Cases) {
     cases.run(
         "grant: pages 1 and 0x0100, domains 5 and 0x0500 are told apart",
         &small(&[(0, 0), (1, 1)], 1, 1),
-        &[vec![(grant(READ, 0x0100, 5), 4), (grant(READ, 1, 0x0500), 5), (grant(READ, 1, 5), 0)], field_is(READ, 1, 5, 0x0021)]
-            .concat(),
+        &[
+            vec![(grant(READ, 0x0100, 5), 4), (grant(READ, 1, 0x0500), 5), (grant(READ, 1, 5), 0)],
+            field_is(READ, 1, 5, 0x0021),
+        ]
+        .concat(),
     );
     cases.run(
         "grant to the highest domain, 14 prevails: field 0x4000 becomes 0xC000",
@@ -404,24 +455,31 @@ fn masks(cases: &mut Cases) {
     cases.run(
         "mask 0: the local context follows the new mask",
         &sample(),
-        &[vec![(mask(0x0004), 0), (read(512), 0), (write(512), 0), (read(256), 9)], clear_flag(), vec![(read(0), 9)]].concat(),
+        &[vec![(mask(0x0004), 0), (read(512), 0), (write(512), 0), (read(256), 9)], clear_flag(), vec![(read(0), 9)]]
+            .concat(),
     );
     cases.run(
         "mask 6: in privileged mode, and the mask stays",
         &sample(),
         &[vec![(entry_call(), 0), (mask(0xFFFF), 6), (return_call(), 0)], mask_is(0x0003)].concat(),
     );
-    cases.run("mask 8: with the flag set, and the mask stays", &sample(), &[vec![(write(0), 9), (mask(0xFFFF), 8)], mask_is(0x0003)].concat());
+    cases.run(
+        "mask 8: with the flag set, and the mask stays",
+        &sample(),
+        &[vec![(write(0), 9), (mask(0xFFFF), 8)], mask_is(0x0003)].concat(),
+    );
     cases.run("mask keeps bits outside the context", &sample(), &[vec![(mask(0xA508), 0)], mask_is(0xA508)].concat());
     cases.run(
         "mask keeps bits outside the context through a switch away and back",
         &sample(),
-        &[vec![(mask(0x8D01), 0)], turn(1), vec![(read(512), 0)], turn(0), vec![(read(0), 0)], mask_is(0x8D01)].concat(),
+        &[vec![(mask(0x8D01), 0)], turn(1), vec![(read(512), 0)], turn(0), vec![(read(0), 0)], mask_is(0x8D01)]
+            .concat(),
     );
     cases.run(
         "mask: byte order, 0x0700 leaves nothing of context 0x0007",
         &sample(),
-        &[vec![(mask(0x0700), 0), (read(0), 9)], clear_flag(), vec![(mask(0x0007), 0), (read(0), 0), (read(512), 0)]].concat(),
+        &[vec![(mask(0x0700), 0), (read(0), 9)], clear_flag(), vec![(mask(0x0007), 0), (read(0), 0), (read(512), 0)]]
+            .concat(),
     );
     cases.run(
         "mask: right and A are ignored",
@@ -456,9 +514,21 @@ fn flag_set(cases: &mut Cases) {
         &sample(),
         &[vec![(read(512), 9)], watched.clone(), clear_flag(), vec![(write(256), 0), (read(512), 9)]].concat(),
     );
-    cases.run("the same, and READ of page 0 stays", &sample(), &[vec![(read(512), 9)], watched.clone(), field_is(READ, 0, 8, 9)].concat());
-    cases.run("the same, and the mask stays", &sample(), &[vec![(read(512), 9)], watched.clone(), mask_is(0x0003)].concat());
-    cases.run("the same, and the context stays", &sample(), &[vec![(read(512), 9)], watched, context_is(0x0007)].concat());
+    cases.run(
+        "the same, and READ of page 0 stays",
+        &sample(),
+        &[vec![(read(512), 9)], watched.clone(), field_is(READ, 0, 8, 9)].concat(),
+    );
+    cases.run(
+        "the same, and the mask stays",
+        &sample(),
+        &[vec![(read(512), 9)], watched.clone(), mask_is(0x0003)].concat(),
+    );
+    cases.run(
+        "the same, and the context stays",
+        &sample(),
+        &[vec![(read(512), 9)], watched, context_is(0x0007)].concat(),
+    );
     cases.run(
         "with the flag set: entry is 0 and clears it",
         &sample(),

@@ -43,7 +43,14 @@ fn entry_and_return(cases: &mut Cases) {
     cases.run(
         "entry and return from user mode",
         &sample(),
-        &[in_user_mode(), (entry_call(), 0), in_privileged_mode(), (return_call(), 0), in_user_mode(), (return_call(), 7)],
+        &[
+            in_user_mode(),
+            (entry_call(), 0),
+            in_privileged_mode(),
+            (return_call(), 0),
+            in_user_mode(),
+            (return_call(), 7),
+        ],
     );
     cases.run(
         "depth 8: eight entries, then 13, then eight returns down to user mode",
@@ -51,7 +58,7 @@ fn entry_and_return(cases: &mut Cases) {
         &[
             times(8, (entry_call(), 0)),
             vec![(entry_call(), 13), (entry_call(), 13), in_privileged_mode()],
-            vec![(return_call(), 0), in_privileged_mode()].repeat(7),
+            [(return_call(), 0), in_privileged_mode()].repeat(7),
             vec![(return_call(), 0), in_user_mode(), (return_call(), 7)],
         ]
         .concat(),
@@ -70,7 +77,11 @@ fn entry_and_return(cases: &mut Cases) {
     cases.run(
         "depth 8, one return, and one more entry fits",
         &sample(),
-        &[times(8, (entry_call(), 0)), vec![(entry_call(), 13), (return_call(), 0), (entry_call(), 0), (entry_call(), 13)]].concat(),
+        &[
+            times(8, (entry_call(), 0)),
+            vec![(entry_call(), 13), (return_call(), 0), (entry_call(), 0), (entry_call(), 13)],
+        ]
+        .concat(),
     );
     cases.run(
         "13 in user mode keeps the flag and the mode",
@@ -134,15 +145,15 @@ fn entry_and_return(cases: &mut Cases) {
             (record(6, 2, 0x0100, 0x0001), 0),
         ],
     );
-    cases.run(
-        "entry and return leave context and mask",
-        &sample(),
-        &[clear_flag(), context_is(0x0007)].concat(),
-    );
+    cases.run("entry and return leave context and mask", &sample(), &[clear_flag(), context_is(0x0007)].concat());
 }
 
 fn switch_refusals(cases: &mut Cases) {
-    cases.run("switch 7: in user mode, also to a program that is not there", &sample(), &[(switch(1), 7), (switch(2), 7), (read(0), 0)]);
+    cases.run(
+        "switch 7: in user mode, also to a program that is not there",
+        &sample(),
+        &[(switch(1), 7), (switch(2), 7), (read(0), 0)],
+    );
     cases.run(
         "switch 7: in user mode at depth 1",
         &sample(),
@@ -170,7 +181,13 @@ fn switch_refusals(cases: &mut Cases) {
     cases.run(
         "switch 15: depth 8",
         &sample(),
-        &[times(8, (entry_call(), 0)), vec![(switch(1), 15)], times(8, (return_call(), 0)), vec![(read(256), 0), (read(512), 9)]].concat(),
+        &[
+            times(8, (entry_call(), 0)),
+            vec![(switch(1), 15)],
+            times(8, (return_call(), 0)),
+            vec![(read(256), 0), (read(512), 9)],
+        ]
+        .concat(),
     );
     cases.run(
         "switch 16: programs 2, 8, 256, 257 and 65535 of two, and nothing changes",
@@ -218,7 +235,8 @@ fn switches(cases: &mut Cases) {
     cases.run(
         "switch to itself keeps the live context, which is newer than its entry",
         &sample(),
-        &[vec![(entry_call(), 0), (store_context(0x0F0C), 0), (switch(0), 0), (return_call(), 0)], context_is(0x0F0C)].concat(),
+        &[vec![(entry_call(), 0), (store_context(0x0F0C), 0), (switch(0), 0), (return_call(), 0)], context_is(0x0F0C)]
+            .concat(),
     );
     cases.run(
         "switch to itself keeps the saved mode",
@@ -331,13 +349,19 @@ fn field_stores(cases: &mut Cases) {
     cases.run(
         "field store 0: all 16 bits, high byte first",
         &sample(),
-        &[vec![(entry_call(), 0), (store_field(READ, 2, 0x8103), 0), (return_call(), 0)], field_is(READ, 2, 8, 0x8103)].concat(),
+        &[vec![(entry_call(), 0), (store_field(READ, 2, 0x8103), 0), (return_call(), 0)], field_is(READ, 2, 8, 0x8103)]
+            .concat(),
     );
     cases.run(
         "field store: READ and WRITE of a page are two fields",
         &sample(),
         &[
-            vec![(entry_call(), 0), (store_field(READ, 1, 0x0240), 0), (store_field(WRITE, 1, 0x1080), 0), (return_call(), 0)],
+            vec![
+                (entry_call(), 0),
+                (store_field(READ, 1, 0x0240), 0),
+                (store_field(WRITE, 1, 0x1080), 0),
+                (return_call(), 0),
+            ],
             field_is(READ, 1, 8, 0x0240),
             field_is(WRITE, 1, 8, 0x1080),
             field_is(READ, 0, 8, 0x0009),
@@ -349,8 +373,19 @@ fn field_stores(cases: &mut Cases) {
         "field store: an emptied field has no prevailing domain, a filled one has its lowest",
         &sample(),
         &[
-            vec![(entry_call(), 0), (store_field(READ, 0, 0), 0), (store_field(WRITE, 0, 0x0006), 0), (return_call(), 0)],
-            vec![(grant(READ, 0, 5), 11), (grant(WRITE, 0, 1), 12), (grant(WRITE, 0, 2), 0), (write(0), 0), (read(0), 9)],
+            vec![
+                (entry_call(), 0),
+                (store_field(READ, 0, 0), 0),
+                (store_field(WRITE, 0, 0x0006), 0),
+                (return_call(), 0),
+            ],
+            vec![
+                (grant(READ, 0, 5), 11),
+                (grant(WRITE, 0, 1), 12),
+                (grant(WRITE, 0, 2), 0),
+                (write(0), 0),
+                (read(0), 9),
+            ],
         ]
         .concat(),
     );
@@ -398,15 +433,37 @@ fn register_stores(cases: &mut Cases) {
     cases.run(
         "context store 7 in user mode, 0 in privileged mode with all 16 bits",
         &sample(),
-        &[vec![(store_context(0xFFFF), 7), (read(512), 9), (entry_call(), 0), (store_context(0x4A10), 0), (return_call(), 0)], context_is(0x4A10)]
-            .concat(),
+        &[
+            vec![
+                (store_context(0xFFFF), 7),
+                (read(512), 9),
+                (entry_call(), 0),
+                (store_context(0x4A10), 0),
+                (return_call(), 0),
+            ],
+            context_is(0x4A10),
+        ]
+        .concat(),
     );
-    cases.run("context store 7 leaves the context", &sample(), &[vec![(store_context(0x1234), 7)], context_is(0x0007)].concat());
+    cases.run(
+        "context store 7 leaves the context",
+        &sample(),
+        &[vec![(store_context(0x1234), 7)], context_is(0x0007)].concat(),
+    );
     cases.run(
         "mask store 7 in user mode, 0 in privileged mode with all 16 bits",
         &sample(),
-        &[vec![(store_mask(0xFFFF), 7), (read(512), 9), (entry_call(), 0), (store_mask(0x9210), 0), (return_call(), 0)], mask_is(0x9210)]
-            .concat(),
+        &[
+            vec![
+                (store_mask(0xFFFF), 7),
+                (read(512), 9),
+                (entry_call(), 0),
+                (store_mask(0x9210), 0),
+                (return_call(), 0),
+            ],
+            mask_is(0x9210),
+        ]
+        .concat(),
     );
     cases.run("mask store 7 leaves the mask", &sample(), &[vec![(store_mask(0x1234), 7)], mask_is(0x0003)].concat());
     cases.run(
@@ -486,7 +543,13 @@ fn register_stores(cases: &mut Cases) {
         "stores stay live only: the entry gets them at the switch",
         &sample(),
         &[
-            vec![(entry_call(), 0), (store_context(0x000C), 0), (store_mask(0x0004), 0), (return_call(), 0), (read(512), 0)],
+            vec![
+                (entry_call(), 0),
+                (store_context(0x000C), 0),
+                (store_mask(0x0004), 0),
+                (return_call(), 0),
+                (read(512), 0),
+            ],
             vec![(read(0), 9)],
             turn(1),
             vec![(read(0), 0)],

@@ -46,8 +46,16 @@ fn declared(cases: &mut Cases) {
     cases.input("length 45 and 44 bytes are there: they load", declaring(45, &image, &[]), &[0]);
     cases.input("length 575 and 44 bytes are there: they load", declaring(575, &image, &[]), &[0]);
     cases.input("length 65535 and 44 bytes are there: they load", declaring(65_535, &image, &[]), &[0]);
-    cases.input("length low byte first, 0x2C00, and 44 bytes are there: they load", declaring(0x2C00, &image, &[]), &[0]);
-    cases.input("length low byte first, 0x2C00, and calls follow: they count as image", declaring(0x2C00, &image, &calls), &[24]);
+    cases.input(
+        "length low byte first, 0x2C00, and 44 bytes are there: they load",
+        declaring(0x2C00, &image, &[]),
+        &[0],
+    );
+    cases.input(
+        "length low byte first, 0x2C00, and calls follow: they count as image",
+        declaring(0x2C00, &image, &calls),
+        &[24],
+    );
     cases.input("length 44 and 43 bytes are there", declaring(44, &image[..43], &[]), &[24]);
     cases.input("length 44 and 31 bytes are there", declaring(44, &image[..31], &[]), &[24]);
     cases.input("length 44 and 30 bytes are there", declaring(44, &image[..30], &[]), &[20]);

@@ -43,7 +43,8 @@ fn lengths(cases: &mut Cases) {
 }
 
 fn contents(cases: &mut Cases) {
-    for (at, name, kinds, zero) in [(0, "shape", [0, 2], 1), (6, "pages", [1, 130], 128), (12, "programs", [2, 4], 255)] {
+    for (at, name, kinds, zero) in [(0, "shape", [0, 2], 1), (6, "pages", [1, 130], 128), (12, "programs", [2, 4], 255)]
+    {
         for kind in kinds {
             cases.load(&format!("the entry of the {name} has kind {kind}"), &sample_with(&[(at, kind)]), 21);
         }
@@ -83,7 +84,11 @@ fn shapes(cases: &mut Cases) {
     cases.load("the shape's fourth byte 255", &sample_with(&[(21, 255)]), 23);
     // Memory of exactly 65,536 bytes is among the cases of access.
     for (exponent, page_count) in [(10, 65), (10, 128), (11, 33), (12, 17), (12, 128)] {
-        cases.load(&format!("{page_count} pages with exponent {exponent}, memory too large"), &plan(exponent, page_count, 1).image(), 23);
+        cases.load(
+            &format!("{page_count} pages with exponent {exponent}, memory too large"),
+            &plan(exponent, page_count, 1).image(),
+            23,
+        );
     }
 }
 

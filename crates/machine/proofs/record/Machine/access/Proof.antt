@@ -1,45 +1,78 @@
+-- `Machine::access` meets its contract: it changes the flag alone, and its number is that of the field it read.
+use mathlib.Core.Path.{_≡_, _∙_}
+use mathlib.Core.Logic.{⊎-elim}
+use lib.ListN.{getD}
+use lib.Dec.{leb}
+use Prim.Native.Nat.{ℕ}
+use mathlib.Core.Bool.{not}
+use Rattle.rules.specs.Refusals.{first, pick}
+use Rattle.machine.specs.Machine.{isSound, fieldOf}
+use Rattle.machine.proofs.Sound.{where-sound}
+use Rattle.machine.proofs.Answers.{past-read, access-answered}
+use Rattle.machine.specs.Calls.{accessChecks, checksOf, numberOf, pageOf}
+use Rattle.machine.specs.declared.record.Call.the-variants.{Access}
 use borrow.Author.Needs.{needs}
 use Rattle.machine.proofs.record.Machine.access.Statement.{statement}
 use Rattle.machine.proofs.record.Machine.access.Tie as tie
 use Rattle.machine.proofs.record.Machine.access.Reads as reads
 use Rattle.machine.proofs.record.Machine.access.Lts as lts
-use Rattle.machine.proofs.record.Machine.access_to.Reads as access-to-reads
+use Rattle.machine.proofs.record.Machine.access_at.Reads as access-at-reads
 use Rattle.machine.proofs.record.page_of.Reads as page-of-reads
 use Rattle.machine.proofs.record.place.Reads as place-reads
 use Rattle.rules.proofs.registers.Registers.or_where.Reads as or-where-reads
 use Rattle.rules.proofs.registers.Registers.with_pending.Reads as with-pending-reads
 
--- src/calls.rt:64:31
+-- src/calls.rt:74:31
 page-of-requires : tie.Need-page-of-requires
 page-of-requires c κs = search needs
 
--- src/calls.rt:64:13
+-- src/calls.rt:74:13
 place-requires : tie.Need-place-requires
 place-requires c κs = search needs
 
--- src/calls.rt:68:21
+-- src/calls.rt:78:21
 mul-field : tie.Need-mul-field
 mul-field c = search needs
 
--- src/calls.rt:68:21
+-- src/calls.rt:78:21
 array-read-field : tie.Need-array-read-field
 array-read-field c = search needs
 
--- src/calls.rt:70:13
-access-to-requires : tie.Need-access-to-requires
-access-to-requires c κs = search needs
+-- src/calls.rt:80:13
+access-at-requires : tie.Need-access-at-requires
+access-at-requires c κs = search needs
 
--- src/calls.rt:71:53
+-- src/calls.rt:81:53
 with-pending-requires : tie.Need-with-pending-requires
 with-pending-requires c κs = search needs
 
--- src/calls.rt:71:13
+-- src/calls.rt:81:13
 or-where-requires : tie.Need-or-where-requires
 or-where-requires c κs = search needs
 
--- src/calls.rt:60:5
+-- src/calls.rt:70:5
+field-read : (c : tie.Joined1)
+    → c .if1 .field ≡ getD (c .before .before .before .before .before .args .self .fields) (c .before .before .place .result) 0
+field-read c =
+    let start = c .before .before .before .before .before in
+    ⊎-elim (λ w. w .1) (λ w. w .1 ∙ past-read (start .args .self .fields) (search needs) (w .0 .left)) (c .if1 .came)
+
+number : (c : tie.After-access-at)
+    → c .access-at .result ≡ numberOf (c .before .before .before .before .before .before .args .self) (Access (c .before .before .before .before .before .before .args .right) (c .before .before .before .before .before .before .args .address))
+unfolding checksOf
+number c =
+    let a = c .before .before .before .before .before .before .args in
+    let m = a .self in
+    let number : ℕ → ℕ = λ page. first (accessChecks m (a .right) (a .address) (fieldOf m (a .right) page)) in
+    let page = pageOf m (a .address) in
+    let guarded : c .access-at .result ≡ pick (not (isSound m)) 1 (number (pick (leb (m .exponent) 12) page 0)) =
+    cc (field-read (c .before)) in
+    guarded ∙ where-sound m number page
+
 returns : tie.Need-returns
-returns c = ?
+returns c =
+    let a = c .before .before .before .before .before .before .before .before .args in
+    access-answered (a .self) (a .right) (a .address) (number (c .before .before)) (cc)
 
 pub access-spec : {M : Type 1} → statement M
 access-spec =
@@ -49,7 +82,7 @@ access-spec =
     place-requires
     mul-field
     array-read-field
-    access-to-requires
+    access-at-requires
     with-pending-requires
     or-where-requires
     returns)

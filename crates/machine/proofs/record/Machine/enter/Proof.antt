@@ -1,3 +1,13 @@
+-- `Machine::enter` meets its contract: a call that is accepted stands below depth 8, so the place that it fills is there.
+use mathlib.Core.Path.{_≡_, refl, ap, sym, _∙_}
+use Rattle.rules.specs.Registers.{withMode}
+use Rattle.rules.specs.declared.registers.Mode.the-variants.{Privileged}
+use mathlib.Core.Logic.{⊎-elim}
+use native.Mathlib.Omega.{arith}
+use borrow.Author.Tests.{ltb-true, ltb-false}
+use Rattle.machine.proofs.Answers.{done, kept, with-stack, entry-below}
+use Rattle.machine.specs.Calls.{checksOf, effectOf, entered, numberOf}
+use Rattle.machine.specs.declared.record.Call.the-variants.{Enter}
 use borrow.Author.Needs.{needs}
 use Rattle.machine.proofs.record.Machine.enter.Statement.{statement}
 use Rattle.machine.proofs.record.Machine.enter.Tie as tie
@@ -6,49 +16,55 @@ use Rattle.machine.proofs.record.Machine.enter.Lts as lts
 use Rattle.machine.proofs.record.Machine.sound.Reads as sound-reads
 use Rattle.rules.proofs.decisions.checked.Reads as checked-reads
 use Rattle.rules.proofs.decisions.entry_number.Reads as entry-number-reads
-use Rattle.rules.proofs.registers.Registers.or_where.Reads as or-where-reads
 use Rattle.rules.proofs.registers.Registers.with_mode.Reads as with-mode-reads
 use Rattle.rules.proofs.registers.Registers.with_pending.Reads as with-pending-reads
 
--- src/calls.rt:146:31
+-- src/calls.rt:152:31
 sound-requires : tie.Need-sound-requires
 sound-requires c κs = search needs
 
--- src/calls.rt:146:45
+-- src/calls.rt:152:45
 entry-number-requires : tie.Need-entry-number-requires
 entry-number-requires c κs = search needs
 
--- src/calls.rt:146:13
+-- src/calls.rt:152:13
 checked-requires : tie.Need-checked-requires
 checked-requires c κs = search needs
 
--- src/calls.rt:148:19
+-- src/calls.rt:155:19
 cast-saved : tie.Need-cast-saved
 cast-saved c = search needs
 
--- src/calls.rt:148:13
+-- src/calls.rt:155:13
 array-set-from-saved : tie.Need-array-set-from-saved
 array-set-from-saved c = search needs
 
--- src/calls.rt:149:13
-add-depth : tie.Need-add-depth
-add-depth c = ?
-
--- src/calls.rt:151:53
+-- src/calls.rt:156:25
 with-pending-requires : tie.Need-with-pending-requires
 with-pending-requires c κs = search needs
 
--- src/calls.rt:151:53
+-- src/calls.rt:156:13
 with-mode-requires : tie.Need-with-mode-requires
 with-mode-requires c κs = search needs
 
--- src/calls.rt:151:13
-or-where-requires : tie.Need-or-where-requires
-or-where-requires c κs = search needs
+-- src/calls.rt:157:13
+add-depth : tie.Need-add-depth
+add-depth c = omega (arith, ltb-true (c .before .before .before .before .before .before .before .before .before .args .self .depth) 8 (c .before .before .if2 .taken))
 
--- src/calls.rt:139:5
+-- src/calls.rt:146:5
 returns : tie.Need-returns
-returns c = ?
+unfolding checksOf effectOf entered
+returns c =
+    let m = c .before .before .before .before .before .before .args .self in
+    let n = c .before .checked .result in
+    let number : n ≡ numberOf m Enter = cc in
+    ⊎-elim
+    (λ w. done m Enter number (w .0 .taken) (with-stack m (w .5) (w .6) (w .4 ∙ w .3 .ensures ∙ ap (withMode Privileged) (w .2 .ensures))))
+    (λ w.
+    let refused : n ≡ 0 → ⊥ =
+    ⊎-elim (λ v z. omega (arith, ltb-false (m .depth) 8 (v .1 .left), entry-below m (sym number ∙ z))) (λ v. v .left) (w .0 .came) in
+    kept m Enter number refl refused (with-stack m (w .2) (w .3) (w .1)))
+    (c .if1 .came)
 
 pub enter-spec : {M : Type 1} → statement M
 enter-spec =
@@ -59,8 +75,7 @@ enter-spec =
     checked-requires
     cast-saved
     array-set-from-saved
-    add-depth
     with-pending-requires
     with-mode-requires
-    or-where-requires
+    add-depth
     returns)

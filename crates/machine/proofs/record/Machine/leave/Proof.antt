@@ -1,3 +1,15 @@
+-- `Machine::leave` meets its contract: a call that is accepted stands at depth 8 at most, so the place that it empties is there.
+use mathlib.Core.Path.{_≡_, refl, ap, sym, _∙_}
+use Prim.Native.Nat.{ℕ}
+use lib.ListN.{getD, set}
+use Rattle.rules.specs.Registers.{withMode}
+use Rattle.machine.specs.Machine.{noMode}
+use mathlib.Core.Logic.{⊎-elim}
+use native.Mathlib.Omega.{arith}
+use borrow.Author.Tests.{ltb-true, ltb-false}
+use Rattle.machine.proofs.Answers.{done, kept, with-stack, return-within}
+use Rattle.machine.specs.Calls.{checksOf, effectOf, returned, numberOf}
+use Rattle.machine.specs.declared.record.Call.the-variants.{Return}
 use borrow.Author.Needs.{needs}
 use Rattle.machine.proofs.record.Machine.leave.Statement.{statement}
 use Rattle.machine.proofs.record.Machine.leave.Tie as tie
@@ -48,7 +60,18 @@ cast-depth c = search needs
 
 -- src/calls.rt:159:5
 returns : tie.Need-returns
-returns c = ?
+unfolding checksOf effectOf returned
+returns c =
+    let m = c .before .before .before .before .before .before .before .before .args .self in
+    let n = c .before .checked .result in
+    let number : n ≡ numberOf m Return = cc in
+    ⊎-elim
+    (λ w. done m Return number (w .0 .taken) (with-stack m (w .5 ∙ c .before .before .before .before .before .below .ensures) (w .6 ∙ ap (λ (k : ℕ). set (m .saved) k noMode) (c .before .before .before .before .before .below .ensures)) (w .4 ∙ w .3 .ensures ∙ ap (λ (k : ℕ). withMode (getD (m .saved) k noMode .mode) (m .registers)) (c .before .before .before .before .before .below .ensures))))
+    (λ w.
+    let refused : n ≡ 0 → ⊥ =
+    ⊎-elim (λ v z. omega (arith, ltb-false (c .before .before .before .before .before .below .result) 8 (v .1 .left), return-within m (sym number ∙ z), c .before .before .before .before .before .below .ensures)) (λ v. v .left) (w .0 .came) in
+    kept m Return number refl refused (with-stack m (w .2) (w .3) (w .1)))
+    (c .if1 .came)
 
 pub leave-spec : {M : Type 1} → statement M
 leave-spec =

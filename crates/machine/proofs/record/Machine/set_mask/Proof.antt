@@ -1,3 +1,8 @@
+-- `Machine::set_mask` meets its contract: it changes the registers alone.
+use Rattle.machine.proofs.Answers.{registers-answered}
+use Rattle.machine.specs.Calls.{checksOf, effectOf}
+use Rattle.machine.specs.declared.record.Call.the-variants.{SetMask}
+use mathlib.Core.Path.{refl}
 use borrow.Author.Needs.{needs}
 use Rattle.machine.proofs.record.Machine.set_mask.Statement.{statement}
 use Rattle.machine.proofs.record.Machine.set_mask.Tie as tie
@@ -36,7 +41,10 @@ or-where-requires c κs = search needs
 
 -- src/calls.rt:128:5
 returns : tie.Need-returns
-returns c = ?
+unfolding checksOf effectOf
+returns c =
+    let a = c .before .before .before .before .before .before .before .args in
+    registers-answered (a .self) (SetMask (a .mask)) (cc) refl refl (cc)
 
 pub set-mask-spec : {M : Type 1} → statement M
 set-mask-spec =

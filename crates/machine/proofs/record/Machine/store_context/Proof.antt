@@ -1,3 +1,8 @@
+-- `Machine::store_context` meets its contract: it changes the registers alone.
+use Rattle.machine.proofs.Answers.{registers-answered}
+use Rattle.machine.specs.Calls.{checksOf, effectOf}
+use Rattle.machine.specs.declared.record.Call.the-variants.{StoreContext}
+use mathlib.Core.Path.{refl}
 use borrow.Author.Needs.{needs}
 use Rattle.machine.proofs.record.Machine.store_context.Statement.{statement}
 use Rattle.machine.proofs.record.Machine.store_context.Tie as tie
@@ -36,7 +41,10 @@ or-where-requires c κs = search needs
 
 -- src/calls.rt:238:5
 returns : tie.Need-returns
-returns c = ?
+unfolding checksOf effectOf
+returns c =
+    let a = c .before .before .before .before .before .before .before .args in
+    registers-answered (a .self) (StoreContext (a .bits)) (cc) refl refl (cc)
 
 pub store-context-spec : {M : Type 1} → statement M
 store-context-spec =

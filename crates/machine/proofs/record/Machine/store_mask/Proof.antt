@@ -1,3 +1,8 @@
+-- `Machine::store_mask` meets its contract: it changes the registers alone.
+use Rattle.machine.proofs.Answers.{registers-answered}
+use Rattle.machine.specs.Calls.{checksOf, effectOf}
+use Rattle.machine.specs.declared.record.Call.the-variants.{StoreMask}
+use mathlib.Core.Path.{refl}
 use borrow.Author.Needs.{needs}
 use Rattle.machine.proofs.record.Machine.store_mask.Statement.{statement}
 use Rattle.machine.proofs.record.Machine.store_mask.Tie as tie
@@ -36,7 +41,10 @@ or-where-requires c κs = search needs
 
 -- src/calls.rt:249:5
 returns : tie.Need-returns
-returns c = ?
+unfolding checksOf effectOf
+returns c =
+    let a = c .before .before .before .before .before .before .before .args in
+    registers-answered (a .self) (StoreMask (a .bits)) (cc) refl refl (cc)
 
 pub store-mask-spec : {M : Type 1} → statement M
 store-mask-spec =

@@ -1,3 +1,8 @@
+-- `Machine::store_mode` meets its contract: it changes the registers alone.
+use Rattle.machine.proofs.Answers.{registers-answered}
+use Rattle.machine.specs.Calls.{checksOf, effectOf}
+use Rattle.machine.specs.declared.record.Call.the-variants.{StoreMode}
+use mathlib.Core.Path.{refl}
 use borrow.Author.Needs.{needs}
 use Rattle.machine.proofs.record.Machine.store_mode.Statement.{statement}
 use Rattle.machine.proofs.record.Machine.store_mode.Tie as tie
@@ -41,7 +46,10 @@ or-where-requires c κs = search needs
 
 -- src/calls.rt:260:5
 returns : tie.Need-returns
-returns c = ?
+unfolding checksOf effectOf
+returns c =
+    let a = c .before .before .before .before .before .before .before .before .args in
+    registers-answered (a .self) (StoreMode (a .mode)) (cc) refl refl (cc)
 
 pub store-mode-spec : {M : Type 1} → statement M
 store-mode-spec =

@@ -1,3 +1,16 @@
+-- `Machine::switch_to` meets its contract: in a call that is accepted both programs have an entry in the table.
+use mathlib.Core.Path.{_≡_, refl, ap, sym, _∙_}
+use Prim.Native.Nat.{_<_}
+use lib.ListN.{getD, set}
+use Rattle.rules.specs.Registers.{withContext}
+use Rattle.machine.specs.Machine.{noMode, noProgram}
+use Rattle.machine.specs.declared.record.Program.{Program}
+use mathlib.Core.Logic.{⊎-elim}
+use native.Mathlib.Omega.{arith}
+use borrow.Author.Tests.{ltb-true, ltb-false}
+use Rattle.machine.proofs.Answers.{done, kept, with-programs, switch-within}
+use Rattle.machine.specs.Calls.{checksOf, effectOf, switched, numberOf}
+use Rattle.machine.specs.declared.record.Call.the-variants.{Switch}
 use borrow.Author.Needs.{needs}
 use Rattle.machine.proofs.record.Machine.switch_to.Statement.{statement}
 use Rattle.machine.proofs.record.Machine.switch_to.Tie as tie
@@ -64,7 +77,25 @@ with-context-requires c κs = search needs
 
 -- src/calls.rt:181:5
 returns : tie.Need-returns
-returns c = ?
+unfolding checksOf effectOf switched
+returns c =
+    let a = c .before .before .before .before .before .before .before .before .before .args in
+    let m = a .self in
+    let n = c .before .checked .result in
+    let number : n ≡ numberOf m (Switch (a .program)) = cc in
+    ⊎-elim
+    (λ w.
+    let live : Program = record { context = m .registers .context; mask = m .registers .mask; mode = getD (m .saved) 0 noMode .mode } in
+    let named = getD (set (m .table) (m .current) live) (a .program) noProgram in
+    done m (Switch (a .program)) number (w .0 .taken)
+    (with-programs m (w .9) (w .10) (w .8) (w .7 ∙ w .6 .ensures ∙ ap (withContext (named .context)) (w .5 .ensures))))
+    (λ w.
+    let within : n ≡ 0 → (m .current < 8) × (a .program < 8) = λ z. switch-within m (a .program) (sym number ∙ z) in
+    let refused : n ≡ 0 → ⊥ =
+    ⊎-elim (λ v z. omega (arith, ltb-false (a .program) 8 (v .2 .left), within z .1))
+    (λ v. ⊎-elim (λ u z. omega (arith, ltb-false (m .current) 8 (u .1 .left), within z .0)) (λ u. u .left) v) (w .0 .came) in
+    kept m (Switch (a .program)) number refl refused (with-programs m (w .3) (w .4) (w .2) (w .1)))
+    (c .if1 .came)
 
 pub switch-to-spec : {M : Type 1} → statement M
 switch-to-spec =

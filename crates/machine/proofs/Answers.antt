@@ -1,0 +1,180 @@
+-- The shape of an answer: from a call's number and what the code changed to `callOf`, for each kind of change.
+use Prim.Native.Nat.{ℕ, _-_, _≤_, _<_}
+use mathlib.Core.Path.{_≡_, refl, ap, sym, _∙_}
+use mathlib.Core.Bool.{Bool, true, false, not, _&&_}
+use mathlib.Core.List.{List, [], _∷_}
+use borrow.Author.Tests.{eqb-true, eqb-false, ne-eqb, ltb-true, not-true, not-false}
+use native.Mathlib.Omega.{arith}
+use lib.Dec.{eqb, ltb}
+use lib.ListN.{length, getD, set, List·getD-eq-default}
+use lib.Seq.{set-getD, set-out}
+use Rattle.rules.specs.Registers.{withPending}
+use Rattle.rules.specs.Domains.{prevailing, withBit, withoutBit}
+use Rattle.rules.specs.Refusals.{Check, _⇒_, first, pick}
+use Rattle.rules.specs.declared.registers.Registers.{Registers}
+use Rattle.machine.specs.Machine.{isSound, fieldOf, placeOf, withFields, withRegisters, withStack, withPrograms}
+use Rattle.machine.specs.Calls.{callOf, checksOf, commandChecks, effectOf, inPrivilegedMode, numberOf, after, violated}
+use Rattle.machine.specs.declared.record.Machine.{Machine}
+use Rattle.machine.specs.declared.record.Saved.{Saved}
+use Rattle.machine.specs.declared.record.Program.{Program}
+use Rattle.machine.specs.declared.record.Page.{Page}
+use Rattle.machine.specs.declared.record.Domain.{Domain}
+use Rattle.machine.specs.declared.record.Answered.{Answered}
+use Rattle.machine.specs.declared.record.Call.{Call}
+use Rattle.machine.specs.declared.record.Call.the-variants.{Access, Grant, Revoke, Enter, Return, Switch}
+use Rattle.machine.proofs.Sound.{sound-facts}
+
+-- no condition of the list answers k
+abbrev pub avoids : ℕ → List Check → Bool
+avoids k [] = not (eqb 0 k)
+avoids k ((met ⇒ number) ∷ rest) = not (eqb number k) && avoids k rest
+
+and-parts : (a b : Bool) → a && b ≡ true → (a ≡ true) × (b ≡ true)
+and-parts true b h = (refl, h)
+and-parts false b h = (h, cc)
+
+pub first-avoids : (k : ℕ) (checks : List Check) → avoids k checks ≡ true → eqb (first checks) k ≡ false
+first-avoids k [] h = not-true (eqb 0 k) h
+first-avoids k ((true ⇒ number) ∷ rest) h =
+    not-true (eqb number k) (and-parts (not (eqb number k)) (avoids k rest) h .0)
+first-avoids k ((false ⇒ number) ∷ rest) h =
+    first-avoids k rest (and-parts (not (eqb number k)) (avoids k rest) h .1)
+
+-- a list of conditions that gives 0: none of them is met
+pub none-met : (met : Bool) (number : ℕ) (rest : List Check) → first ((met ⇒ number) ∷ rest) ≡ 0 → eqb number 0 ≡ false
+    → (met ≡ false) × (first rest ≡ 0)
+none-met true number rest h e = absurd (eqb-false number 0 e h)
+none-met false number rest h e = (refl, h)
+
+module _ (m : Machine) (call : Call) where
+  -- an accepted call: the machine is sound, and no condition of the call is met
+  pub accepted : numberOf m call ≡ 0 → (isSound m ≡ true) × (first (checksOf m call) ≡ 0)
+  accepted h =
+      let p = none-met (not (isSound m)) 1 (checksOf m call) h refl in
+      (not-false (isSound m) (p .0), p .1)
+
+  -- a call that never answers 9 and leaves its effect where it is done and the machine as it was where it is refused
+  pub answered : {n : ℕ} {end : Machine} → n ≡ numberOf m call → avoids 9 (checksOf m call) ≡ true
+      → end ≡ pick (eqb n 0) (effectOf m call) m
+      → _≡_ {A = Answered} (record { number = n; machine = end }) (callOf m call)
+  unfolding callOf after
+  answered {n} {end} number never changed =
+      let nine = first-avoids 9 ((not (isSound m) ⇒ 1) ∷ checksOf m call) never in
+      rw (changed, number, nine)
+
+  -- the same by the two cases: the call is done, or it is refused
+  pub done : {n : ℕ} {end : Machine} → n ≡ numberOf m call → n ≡ 0 → end ≡ effectOf m call
+      → _≡_ {A = Answered} (record { number = n; machine = end }) (callOf m call)
+  unfolding callOf after
+  done {n} {end} number zero changed = rw (changed, ← number, zero)
+
+  pub kept : {n : ℕ} {end : Machine} → n ≡ numberOf m call → avoids 9 (checksOf m call) ≡ true → (n ≡ 0 → ⊥) → end ≡ m
+      → _≡_ {A = Answered} (record { number = n; machine = end }) (callOf m call)
+  kept {n} {end} number never refused same = answered number never (rw (ne-eqb n 0 refused) same)
+
+  -- one that changes the registers alone
+  pub registers-answered : {n : ℕ} {r new : Registers} → n ≡ numberOf m call → avoids 9 (checksOf m call) ≡ true
+      → effectOf m call ≡ withRegisters new m → r ≡ pick (eqb n 0) new (m .registers)
+      → _≡_ {A = Answered} (record { number = n; machine = withRegisters r m }) (callOf m call)
+  registers-answered {n} {r} {new} number never effect changed =
+      answered number never (rw (changed, effect) (split (eqb n 0)))
+    where
+      split : (b : Bool) → withRegisters (pick b new (m .registers)) m ≡ pick b (withRegisters new m) m
+      split true = refl
+      split false = refl
+
+  -- one that changes the field at a place alone
+  pub field-answered : {n : ℕ} {fields : List ℕ} (at new : ℕ) → n ≡ numberOf m call → avoids 9 (checksOf m call) ≡ true
+      → effectOf m call ≡ withFields (set (m .fields) at new) m → fields ≡ pick (eqb n 0) (set (m .fields) at new) (m .fields)
+      → _≡_ {A = Answered} (record { number = n; machine = withFields fields m }) (callOf m call)
+  field-answered {n} {fields} at new number never effect changed =
+      answered number never (rw (changed, effect) (split (eqb n 0)))
+    where
+      split : (b : Bool) → withFields (pick b (set (m .fields) at new) (m .fields)) m ≡ pick b (withFields (set (m .fields) at new) m) m
+      split true = refl
+      split false = refl
+
+-- the field at a place, stored where the call was accepted and stored back as it was where not; past the end, nothing
+pub stored : (l : List ℕ) (at : ℕ) (b : Bool) (new : ℕ) → set l at (pick b new (getD l at 0)) ≡ pick b (set l at new) l
+stored l at true new = refl
+stored l at false new = set-getD l at 0
+
+pub past-read : (l : List ℕ) {n at : ℕ} → length l ≡ n → n ≤ at → 0 ≡ getD l at 0
+past-read l {n} {at} long h = sym (List·getD-eq-default l 0 (rw long h))
+
+pub past-end : (l : List ℕ) (at : ℕ) (b : Bool) (new : ℕ) → length l ≤ at → l ≡ pick b (set l at new) l
+past-end l at true new h = sym (set-out l at new h)
+past-end l at false new h = refl
+
+-- grant and revoke have one list of conditions, and effects that differ in the bit operation alone
+module _ (m : Machine) (right : ℕ) (page : Page) (s : Domain) where
+  pub change-checks : (granting : Bool)
+      → checksOf m (pick granting (Grant right page s) (Revoke right page s)) ≡ commandChecks m right page s (prevailing (fieldOf m right (page .0)))
+  unfolding checksOf
+  change-checks true = refl
+  change-checks false = refl
+
+  pub change-effect : (granting : Bool)
+      → effectOf m (pick granting (Grant right page s) (Revoke right page s))
+      ≡ withFields (set (m .fields) (placeOf right (page .0)) (pick granting (withBit (fieldOf m right (page .0)) (s .0)) (withoutBit (fieldOf m right (page .0)) (s .0)))) m
+  unfolding effectOf
+  change-effect true = refl
+  change-effect false = refl
+
+-- an access changes nothing but the flag, and that where it answers 9
+pub access-answered : (m : Machine) (right address : ℕ) {n : ℕ} {r : Registers} → n ≡ numberOf m (Access right address)
+    → r ≡ pick (eqb n 9) (withPending true (m .registers)) (m .registers)
+    → _≡_ {A = Answered} (record { number = n; machine = withRegisters r m }) (callOf m (Access right address))
+unfolding callOf after effectOf
+access-answered m right address {n} {r} number changed =
+    rw (changed, ← number) (ap (λ (end : Machine). record { number = n; machine = end }) (kept n ∙ done (eqb n 0) refl))
+  where
+    kept : (k : ℕ) → withRegisters (pick (eqb k 9) (withPending true (m .registers)) (m .registers)) m ≡ pick (eqb k 9) (violated m) m
+    kept k = split (eqb k 9)
+      where
+        split : (b : Bool) → withRegisters (pick b (withPending true (m .registers)) (m .registers)) m ≡ pick b (violated m) m
+        split true = refl
+        split false = refl
+
+    done : (b : Bool) → eqb n 0 ≡ b → pick (eqb n 9) (violated m) m ≡ pick b m (pick (eqb n 9) (violated m) m)
+    done true e = rw (eqb-true n 0 e)
+    done false e = refl
+
+-- the stack and the registers put in
+pub with-stack : (m : Machine) {d d′ : ℕ} {s s′ : List Saved} {r r′ : Registers} → d ≡ d′ → s ≡ s′ → r ≡ r′
+    → withStack d s (withRegisters r m) ≡ withStack d′ s′ (withRegisters r′ m)
+with-stack m p q e = rw (p, q, e)
+
+-- the same with the current program and the table
+pub with-programs : (m : Machine) {p p′ : ℕ} {t t′ : List Program} {s s′ : List Saved} {r r′ : Registers}
+    → p ≡ p′ → t ≡ t′ → s ≡ s′ → r ≡ r′
+    → withPrograms p t (withStack (m .depth) s (withRegisters r m)) ≡ withPrograms p′ t′ (withStack (m .depth) s′ (withRegisters r′ m))
+with-programs m e f g h = rw (e, f, g, h)
+
+-- what the numbers of the kernel's calls say where they are accepted
+pub entry-below : (m : Machine) → numberOf m Enter ≡ 0 → m .depth < 8
+unfolding checksOf
+entry-below m h =
+    let a = accepted m Enter h in
+    let s = sound-facts m (a .0) in
+    let e = eqb-false (m .depth) 8 (none-met (eqb (m .depth) 8) 13 [] (a .1) refl .0) in
+    omega arith
+
+pub return-within : (m : Machine) → numberOf m Return ≡ 0 → m .depth - 1 < 8
+return-within m h =
+    let s = sound-facts m (accepted m Return h .0) in
+    omega arith
+
+pub switch-within : (m : Machine) (program : ℕ) → numberOf m (Switch program) ≡ 0 → (m .current < 8) × (program < 8)
+unfolding checksOf
+switch-within m program h =
+    let a = accepted m (Switch program) h in
+    let s = sound-facts m (a .0) in
+    let c₃ = (not (ltb program (m .programs)) ⇒ 16) ∷ [] in
+    let c₂ = (not (eqb (m .depth) 1) ⇒ 15) ∷ c₃ in
+    let c₁ = (not (ltb (m .current) (m .programs)) ⇒ 10) ∷ c₂ in
+    let p = none-met (not (inPrivilegedMode m)) 7 c₁ (a .1) refl .1 in
+    let q = none-met (not (ltb (m .current) (m .programs))) 10 c₂ p refl .1 in
+    let r = none-met (not (eqb (m .depth) 1)) 15 c₃ q refl .1 in
+    let below = ltb-true program (m .programs) (not-false (ltb program (m .programs)) (none-met (not (ltb program (m .programs))) 16 [] r refl .0)) in
+    (omega arith, omega arith)

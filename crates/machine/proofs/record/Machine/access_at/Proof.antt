@@ -1,0 +1,76 @@
+-- `Machine::access_at` meets its contract: its tests are the conditions of the list, and the memory size that the code works out is
+-- the machine's where the machine is sound.
+use Prim.Native.Nat.{ℕ}
+use mathlib.Core.Path.{_≡_, _∙_}
+use mathlib.Core.Bool.{not}
+use mathlib.Core.List.{[], _∷_}
+use lib.Bits.{bitAnd}
+use lib.Dec.{leb, eqb}
+use Rattle.rules.specs.Registers.{isPrivileged, localContext}
+use Rattle.rules.specs.Refusals.{first, pick, _⇒_}
+use Rattle.machine.specs.Machine.{isSound, memorySize}
+use Rattle.machine.specs.Calls.{accessChecks, isRight}
+use Rattle.machine.proofs.Sound.{where-sound}
+use borrow.Author.Needs.{needs}
+use Rattle.machine.proofs.record.Machine.access_at.Statement.{statement}
+use Rattle.machine.proofs.record.Machine.access_at.Tie as tie
+use Rattle.machine.proofs.record.Machine.access_at.Reads as reads
+use Rattle.machine.proofs.record.Machine.access_at.Lts as lts
+use Rattle.machine.proofs.record.Machine.sound.Reads as sound-reads
+use Rattle.machine.proofs.record.memory_size.Reads as memory-size-reads
+use Rattle.rules.proofs.decisions.access_number.Reads as access-number-reads
+use Rattle.rules.proofs.decisions.checked.Reads as checked-reads
+use Rattle.rules.proofs.registers.Registers.local.Reads as local-reads
+use Rattle.rules.proofs.registers.Registers.privileged.Reads as privileged-reads
+
+-- src/calls.rt:62:13
+memory-size-requires : tie.Need-memory-size-requires
+memory-size-requires c κs = search needs
+
+-- src/calls.rt:63:13
+privileged-requires : tie.Need-privileged-requires
+privileged-requires c κs = search needs
+
+-- src/calls.rt:65:21
+local-requires : tie.Need-local-requires
+local-requires c κs = search needs
+
+-- src/calls.rt:60:13
+access-number-requires : tie.Need-access-number-requires
+access-number-requires c κs = search needs
+
+-- src/calls.rt:67:18
+sound-requires : tie.Need-sound-requires
+sound-requires c κs = search needs
+
+-- src/calls.rt:67:9
+checked-requires : tie.Need-checked-requires
+checked-requires c κs = search needs
+
+-- src/calls.rt:56:5
+returns : tie.Need-returns
+unfolding accessChecks
+returns c =
+    let a = c .before .before .before .before .before .before .before .args in
+    let m = a .self in
+    let r = m .registers in
+    let number : ℕ → ℕ =
+    λ memory.
+    first
+    ((not (isRight (a .right)) ⇒ 2)
+    ∷ (leb memory (a .address) ⇒ 3)
+    ∷ pick (isPrivileged (r .mode)) [] ((r .pending ⇒ 8) ∷ (eqb (bitAnd (a .field) (localContext r)) 0 ⇒ 9) ∷ [])) in
+    let guarded : c .checked .result ≡ pick (not (isSound m)) 1 (number (pick (leb (m .exponent) 12) (memorySize m) 0)) = cc in
+    guarded ∙ where-sound m number (memorySize m)
+
+pub access-at-spec : {M : Type 1} → statement M
+access-at-spec =
+    tie.close
+    (tie.spec
+    memory-size-requires
+    privileged-requires
+    local-requires
+    access-number-requires
+    sound-requires
+    checked-requires
+    returns)
