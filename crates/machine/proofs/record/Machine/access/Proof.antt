@@ -66,13 +66,14 @@ number c =
     let number : ℕ → ℕ = λ page. first (accessChecks m (a .right) (a .address) (fieldOf m (a .right) page)) in
     let page = pageOf m (a .address) in
     let guarded : c .access-at .result ≡ pick (not (isSound m)) 1 (number (pick (leb (m .exponent) 12) page 0)) =
-    cc (field-read (c .before)) in
+    rw (c .access-at .ensures, field-read (c .before), c .before .before .before .place .ensures, c .before .before .before .before .page-of .ensures) in
     guarded ∙ where-sound m number page
 
 returns : tie.Need-returns
 returns c =
     let a = c .before .before .before .before .before .before .before .before .args in
-    access-answered (a .self) (a .right) (a .address) (number (c .before .before)) (cc)
+    access-answered (a .self) (a .right) (a .address) (number (c .before .before))
+    (rw (c .or-where .ensures, c .before .with-pending .ensures))
 
 pub access-spec : {M : Type 1} → statement M
 access-spec =

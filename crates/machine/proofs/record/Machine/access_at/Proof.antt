@@ -60,7 +60,9 @@ returns c =
     ((not (isRight (a .right)) ⇒ 2)
     ∷ (leb memory (a .address) ⇒ 3)
     ∷ pick (isPrivileged (r .mode)) [] ((r .pending ⇒ 8) ∷ (eqb (bitAnd (a .field) (localContext r)) 0 ⇒ 9) ∷ [])) in
-    let guarded : c .checked .result ≡ pick (not (isSound m)) 1 (number (pick (leb (m .exponent) 12) (memorySize m) 0)) = cc in
+    let guarded : c .checked .result ≡ pick (not (isSound m)) 1 (number (pick (leb (m .exponent) 12) (memorySize m) 0)) =
+    rw (c .checked .ensures, c .before .before .access-number .ensures, c .before .before .before .local .ensures, c .before .before .before .before .privileged .ensures,
+    c .before .before .before .before .before .memory-size .ensures, c .before .sound .ensures) in
     guarded ∙ where-sound m number (memorySize m)
 
 pub access-at-spec : {M : Type 1} → statement M

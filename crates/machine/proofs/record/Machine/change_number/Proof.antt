@@ -49,7 +49,9 @@ checked-requires c κs = search needs
 -- src/calls.rt:87:5
 returns : tie.Need-returns
 unfolding commandChecks
-returns c = cc
+returns c =
+    rw (c .checked .ensures, c .before .before .command-number .ensures, c .before .before .before .not-lower .ensures, c .before .before .before .before .outside .ensures,
+    c .before .before .before .before .before .local .ensures, c .before .before .before .before .before .before .privileged .ensures, c .before .before .before .before .before .before .before .before .before .before .prevailing-of .ensures, c .before .sound .ensures)
 
 pub change-number-spec : {M : Type 1} → statement M
 change-number-spec =

@@ -77,9 +77,9 @@ returns c =
     let new = pick (a .granting) (withBit (getD (m .fields) at 0) (a .domain .0)) (withoutBit (getD (m .fields) at 0) (a .domain .0)) in
     let n = c .before .before .before .change-number .result in
     let read = field-read (c .before .before .before .before) in
-    let number : n ≡ numberOf m call = rw (change-checks m (a .right) (a .page) (a .domain) (a .granting)) (cc read) in
+    let number : n ≡ numberOf m call = rw (change-checks m (a .right) (a .page) (a .domain) (a .granting)) (rw (c .before .before .before .change-number .ensures, read, c .before .before .before .before .before .before .place .ensures)) in
     let written : c .if2 .fields ≡ pick (eqb n 0) (set (m .fields) at new) (m .fields) =
-    ⊎-elim (λ w. w .1 ∙ cc (read, stored (m .fields) at (eqb n 0) new))
+    ⊎-elim (λ w. w .1 ∙ rw (c .before .chosen .ensures, c .before .before .changed .ensures, read, c .before .before .before .before .before .before .place .ensures) (stored (m .fields) at (eqb n 0) new))
     (λ w. w .1 ∙ past-end (m .fields) at (eqb n 0) new (omega (arith, long start, c .before .before .before .before .before .before .place .ensures, w .0 .left))) (c .if2 .came) in
     field-answered m call at new number (rw (change-checks m (a .right) (a .page) (a .domain) (a .granting)))
     (change-effect m (a .right) (a .page) (a .domain) (a .granting)) written

@@ -57,7 +57,8 @@ unfolding checksOf effectOf entered
 returns c =
     let m = c .before .before .before .before .before .before .args .self in
     let n = c .before .checked .result in
-    let number : n ≡ numberOf m Enter = cc in
+    let number : n ≡ numberOf m Enter =
+    rw (c .before .checked .ensures, c .before .before .entry-number .ensures, c .before .before .before .sound .ensures) in
     ⊎-elim
     (λ w. done m Enter number (w .0 .taken) (with-stack m (w .5) (w .6) (w .4 ∙ w .3 .ensures ∙ ap (withMode Privileged) (w .2 .ensures))))
     (λ w.

@@ -64,7 +64,8 @@ unfolding checksOf effectOf returned
 returns c =
     let m = c .before .before .before .before .before .before .before .before .args .self in
     let n = c .before .checked .result in
-    let number : n ≡ numberOf m Return = cc in
+    let number : n ≡ numberOf m Return =
+    rw (c .before .checked .ensures, c .before .before .return-number .ensures, c .before .before .before .privileged .ensures, c .before .before .before .before .sound .ensures) in
     ⊎-elim
     (λ w. done m Return number (w .0 .taken) (with-stack m (w .5 ∙ c .before .before .before .before .before .below .ensures) (w .6 ∙ ap (λ (k : ℕ). set (m .saved) k noMode) (c .before .before .before .before .before .below .ensures)) (w .4 ∙ w .3 .ensures ∙ ap (λ (k : ℕ). withMode (getD (m .saved) k noMode .mode) (m .registers)) (c .before .before .before .before .before .below .ensures))))
     (λ w.

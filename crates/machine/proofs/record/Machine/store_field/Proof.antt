@@ -85,9 +85,11 @@ returns c =
     let n = c .before .before .checked .result in
     let read = field-read (c .before .before .before .before .before .before .before .before) in
     let written : c .if2 .fields ≡ pick (eqb n 0) (set (m .fields) at (a .bits)) (m .fields) =
-    ⊎-elim (λ w. w .1 ∙ cc (read, stored (m .fields) at (eqb n 0) (a .bits)))
+    ⊎-elim (λ w. w .1 ∙ rw (c .before .chosen .ensures, read, c .before .before .before .before .before .before .before .before .before .before .place .ensures) (stored (m .fields) at (eqb n 0) (a .bits)))
     (λ w. w .1 ∙ past-end (m .fields) at (eqb n 0) (a .bits) (omega (arith, long start, c .before .before .before .before .before .before .before .before .before .before .place .ensures, w .0 .left))) (c .if2 .came) in
-    field-answered m (StoreField (a .right) (a .page) (a .bits)) at (a .bits) (cc) refl refl written
+    field-answered m (StoreField (a .right) (a .page) (a .bits)) at (a .bits)
+    (rw (c .before .before .checked .ensures, c .before .before .before .field-number .ensures, c .before .before .before .before .privileged .ensures, c .before .before .before .before .before .before .before .sound .ensures))
+    refl refl written
 
 pub store-field-spec : {M : Type 1} → statement M
 store-field-spec =

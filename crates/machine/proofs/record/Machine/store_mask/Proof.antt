@@ -44,7 +44,9 @@ returns : tie.Need-returns
 unfolding checksOf effectOf
 returns c =
     let a = c .before .before .before .before .before .before .before .args in
-    registers-answered (a .self) (StoreMask (a .bits)) (cc) refl refl (cc)
+    registers-answered (a .self) (StoreMask (a .bits)) 
+    (rw (c .before .before .checked .ensures, c .before .before .before .register-number .ensures, c .before .before .before .before .privileged .ensures, c .before .before .before .before .before .sound .ensures))
+    refl refl (rw (c .or-where .ensures, c .before .with-mask .ensures))
 
 pub store-mask-spec : {M : Type 1} → statement M
 store-mask-spec =

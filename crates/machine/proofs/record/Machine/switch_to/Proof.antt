@@ -82,7 +82,8 @@ returns c =
     let a = c .before .before .before .before .before .before .before .before .before .args in
     let m = a .self in
     let n = c .before .checked .result in
-    let number : n ≡ numberOf m (Switch (a .program)) = cc in
+    let number : n ≡ numberOf m (Switch (a .program)) =
+    rw (c .before .checked .ensures, c .before .before .switch-number .ensures, c .before .before .before .before .privileged .ensures, c .before .before .before .before .before .sound .ensures) in
     ⊎-elim
     (λ w.
     let live : Program = record { context = m .registers .context; mask = m .registers .mask; mode = getD (m .saved) 0 noMode .mode } in
