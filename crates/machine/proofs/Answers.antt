@@ -165,16 +165,20 @@ return-within m h =
     let s = sound-facts m (accepted m Return h .0) in
     omega arith
 
-pub switch-within : (m : Machine) (program : ℕ) → numberOf m (Switch program) ≡ 0 → (m .current < 8) × (program < 8)
+pub switch-named : (m : Machine) (program : ℕ) → numberOf m (Switch program) ≡ 0 → program < m .programs
 unfolding checksOf
-switch-within m program h =
-    let a = accepted m (Switch program) h in
-    let s = sound-facts m (a .0) in
+switch-named m program h =
     let c₃ = (not (ltb program (m .programs)) ⇒ 16) ∷ [] in
     let c₂ = (not (eqb (m .depth) 1) ⇒ 15) ∷ c₃ in
     let c₁ = (not (ltb (m .current) (m .programs)) ⇒ 10) ∷ c₂ in
-    let p = none-met (not (inPrivilegedMode m)) 7 c₁ (a .1) refl .1 in
+    let p = none-met (not (inPrivilegedMode m)) 7 c₁ (accepted m (Switch program) h .1) refl .1 in
     let q = none-met (not (ltb (m .current) (m .programs))) 10 c₂ p refl .1 in
     let r = none-met (not (eqb (m .depth) 1)) 15 c₃ q refl .1 in
-    let below = ltb-true program (m .programs) (not-false (ltb program (m .programs)) (none-met (not (ltb program (m .programs))) 16 [] r refl .0)) in
+    let named = none-met (not (ltb program (m .programs))) 16 [] r refl .0 in
+    ltb-true program (m .programs) (not-false (ltb program (m .programs)) named)
+
+pub switch-within : (m : Machine) (program : ℕ) → numberOf m (Switch program) ≡ 0 → (m .current < 8) × (program < 8)
+switch-within m program h =
+    let s = sound-facts m (accepted m (Switch program) h .0) in
+    let named = switch-named m program h in
     (omega arith, omega arith)

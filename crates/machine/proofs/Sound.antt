@@ -115,3 +115,23 @@ where-sound m number x = split (isSound m) refl
         → pick (not b) 1 (number (pick (leb (m .exponent) 12) x 0)) ≡ pick (not b) 1 (number x)
     split true e = rw (le-leb (m .exponent) 12 (sound-facts m e .exponent-most))
     split false e = refl
+
+-- what there is to show for the soundness of a machine of the same shape as a sound one
+pub moved-sound : (m end : Machine) → (end .pages ≡ m .pages) × (end .exponent ≡ m .exponent) × (end .programs ≡ m .programs)
+    → isSound m ≡ true → end .depth ≤ 8 → end .current < end .programs
+    → end .registers .pending && isPrivileged (end .registers .mode) ≡ false → isSound end ≡ true
+moved-sound m end shape h deep below calm =
+    let s = sound-facts m h in
+    facts-sound end
+    (record {
+      pages-least = rw (shape .0) (s .pages-least);
+      pages-most = rw (shape .0) (s .pages-most);
+      exponent-least = rw (shape .1) (s .exponent-least);
+      exponent-most = rw (shape .1) (s .exponent-most);
+      depth-most = deep;
+      programs-least = rw (shape .2) (s .programs-least);
+      programs-most = rw (shape .2) (s .programs-most);
+      memory-most = rw (shape .0, shape .1) (s .memory-most);
+      current-below = below;
+      calm = calm
+    })

@@ -1,0 +1,30 @@
+-- The first term's list: "The answer to each call .. is a number listed in document 01".
+use Prim.Native.Nat.{ℕ}
+use mathlib.Core.Bool.{Bool, true, false, _||_}
+use mathlib.Core.List.{List, [], _∷_}
+use lib.Dec.{eqb}
+use Rattle.machine.specs.declared.record.Call.{Call}
+use Rattle.machine.specs.declared.record.Call.the-variants.{Access, Grant, Revoke, SetMask, Enter, Return, Switch, StoreField, StoreContext, StoreMask, StoreMode}
+
+-- a number stands in a list
+abbrev pub isIn : ℕ → List ℕ → Bool
+isIn n [] = false
+isIn n (x ∷ rest) = eqb n x || isIn n rest
+
+-- the numbers that document 01 lists for each call beside 0 and 1, in its order
+abbrev pub ownNumbers : Call → List ℕ
+ownNumbers (Access right address) = 2 ∷ 3 ∷ 8 ∷ 9 ∷ []
+ownNumbers (Grant right page s) = 2 ∷ 4 ∷ 5 ∷ 6 ∷ 8 ∷ 11 ∷ 12 ∷ []
+ownNumbers (Revoke right page s) = 2 ∷ 4 ∷ 5 ∷ 6 ∷ 8 ∷ 11 ∷ 12 ∷ []
+ownNumbers (SetMask bits) = 6 ∷ 8 ∷ []
+ownNumbers Enter = 13 ∷ []
+ownNumbers Return = 7 ∷ 14 ∷ []
+ownNumbers (Switch program) = 7 ∷ 10 ∷ 15 ∷ 16 ∷ []
+ownNumbers (StoreField right page bits) = 2 ∷ 4 ∷ 7 ∷ []
+ownNumbers (StoreContext bits) = 7 ∷ []
+ownNumbers (StoreMask bits) = 7 ∷ []
+ownNumbers (StoreMode mode) = 17 ∷ 7 ∷ []
+
+-- the numbers that document 01 lists for each call
+abbrev pub listed : Call → List ℕ
+listed call = 0 ∷ 1 ∷ ownNumbers call
