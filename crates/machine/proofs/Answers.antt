@@ -13,7 +13,7 @@ use Rattle.rules.specs.Domains.{prevailing, withBit, withoutBit}
 use Rattle.rules.specs.Refusals.{Check, _⇒_, first, pick}
 use Rattle.rules.specs.declared.registers.Registers.{Registers}
 use Rattle.machine.specs.Machine.{isSound, fieldOf, placeOf, withFields, withRegisters, withStack, withPrograms}
-use Rattle.machine.specs.Calls.{callOf, checksOf, commandChecks, effectOf, inPrivilegedMode, numberOf, after, violated}
+use Rattle.machine.specs.Calls.{callOf, checksOf, commandChecks, effectOf, inUserMode, numberOf, after, violated}
 use Rattle.machine.specs.declared.record.Machine.{Machine}
 use Rattle.machine.specs.declared.record.Saved.{Saved}
 use Rattle.machine.specs.declared.record.Program.{Program}
@@ -165,17 +165,24 @@ return-within m h =
     let s = sound-facts m (accepted m Return h .0) in
     omega arith
 
-pub switch-named : (m : Machine) (program : ℕ) → numberOf m (Switch program) ≡ 0 → program < m .programs
-unfolding checksOf
-switch-named m program h =
-    let c₃ = (not (ltb program (m .programs)) ⇒ 16) ∷ [] in
-    let c₂ = (not (eqb (m .depth) 1) ⇒ 15) ∷ c₃ in
-    let c₁ = (not (ltb (m .current) (m .programs)) ⇒ 10) ∷ c₂ in
-    let p = none-met (not (inPrivilegedMode m)) 7 c₁ (accepted m (Switch program) h .1) refl .1 in
-    let q = none-met (not (ltb (m .current) (m .programs))) 10 c₂ p refl .1 in
-    let r = none-met (not (eqb (m .depth) 1)) 15 c₃ q refl .1 in
-    let named = none-met (not (ltb program (m .programs))) 16 [] r refl .0 in
-    ltb-true program (m .programs) (not-false (ltb program (m .programs)) named)
+module _ (m : Machine) (program : ℕ) (h : numberOf m (Switch program) ≡ 0) where
+  switch-conditions : (inUserMode m ≡ false) × (not (eqb (m .depth) 1) ≡ false) × (not (ltb program (m .programs)) ≡ false)
+  unfolding checksOf
+  switch-conditions =
+      let c₃ = (not (ltb program (m .programs)) ⇒ 16) ∷ [] in
+      let c₂ = (not (eqb (m .depth) 1) ⇒ 15) ∷ c₃ in
+      let c₁ = (not (ltb (m .current) (m .programs)) ⇒ 10) ∷ c₂ in
+      let p = none-met (inUserMode m) 7 c₁ (accepted m (Switch program) h .1) refl in
+      let q = none-met (not (ltb (m .current) (m .programs))) 10 c₂ (p .1) refl in
+      let r = none-met (not (eqb (m .depth) 1)) 15 c₃ (q .1) refl in
+      let s = none-met (not (ltb program (m .programs))) 16 [] (r .1) refl in
+      (p .0, r .0, s .0)
+
+  pub switch-named : program < m .programs
+  switch-named = ltb-true program (m .programs) (not-false (ltb program (m .programs)) (switch-conditions .2))
+
+  pub switch-depth : m .depth ≡ 1
+  switch-depth = eqb-true (m .depth) 1 (not-false (eqb (m .depth) 1) (switch-conditions .1))
 
 pub switch-within : (m : Machine) (program : ℕ) → numberOf m (Switch program) ≡ 0 → (m .current < 8) × (program < 8)
 switch-within m program h =

@@ -1,25 +1,29 @@
 -- The laws of all calls, each stated once over `Call`: listed numbers, refusals, soundness and what a call leaves alone.
-use Prim.Native.Nat.{ℕ, _+_, _-_, _*_, _≤_, _<_}
-use mathlib.Core.Path.{_≡_, refl, ap, sym, _∙_}
+use Prim.Native.Nat.{ℕ, _-_, _*_, _≤_, _<_}
+use mathlib.Core.Path.{_≡_, refl, sym, _∙_}
 use mathlib.Core.Bool.{Bool, true, false, not, _&&_, _||_, true≢false}
 use mathlib.Core.List.{List, [], _∷_}
-use borrow.Author.Tests.{eqb-true, eqb-false, eq-eqb, ne-eqb, leb-true, ltb-true, not-true, not-false}
+use borrow.Author.Tests.{eqb-true, eqb-false, ne-eqb, leb-true, ltb-true, not-false}
 use native.Mathlib.Omega.{arith}
 use lib.Bits.{bitAnd}
 use lib.Dec.{leb, ltb, eqb}
-use lib.ListN.{length, getD, set}
+use lib.ListN.{getD, set}
 use lib.Seq.{getD-set-other}
 use Rattle.rules.specs.Registers.{isPrivileged, localContext}
+use Rattle.rules.specs.Domains.{isDomain, isOutside, isNotLower}
+use Rattle.rules.specs.declared.domains.Prevailing.{Prevailing}
 use Rattle.rules.specs.Refusals.{Check, _⇒_, first, pick}
 use Rattle.rules.specs.declared.registers.Mode.{Mode}
-use Rattle.machine.specs.Machine.{isSound, memorySize, fieldOf, noMode, noProgram}
+use Rattle.machine.specs.Machine.{isSound, memorySize, fieldOf, placeOf, noMode, noProgram}
 use Rattle.machine.specs.Calls.{callOf, checksOf, accessChecks, commandChecks, effectOf, entered, returned, switched, inPrivilegedMode, inUserMode, isRight, modeOf, numberOf, pageOf, after, violated}
 use Rattle.machine.specs.Listed.{isIn, listed, ownNumbers}
 use Rattle.machine.specs.declared.record.Machine.{Machine}
+use Rattle.machine.specs.declared.record.Page.{Page}
+use Rattle.machine.specs.declared.record.Domain.{Domain}
 use Rattle.machine.specs.declared.record.Call.{Call}
 use Rattle.machine.specs.declared.record.Call.the-variants.{Access, Grant, Revoke, SetMask, Enter, Return, Switch, StoreField, StoreContext, StoreMask, StoreMode}
 use Rattle.machine.proofs.Sound.{sound-facts, moved-sound}
-use Rattle.machine.proofs.Answers.{avoids, first-avoids, none-met, accepted, entry-below, switch-named}
+use Rattle.machine.proofs.Answers.{avoids, first-avoids, none-met, accepted, entry-below, switch-named, switch-depth}
 
 -- every number of a list of conditions is in a list of numbers, and so is 0
 abbrev within : List ℕ → List Check → Bool
@@ -87,6 +91,7 @@ number-listed m call = split (isSound m)
     more true b c h = refl
     more false true c h = refl
     more false false c h = h
+
     split : (b : Bool) → isIn (pick (not b) 1 (first (checksOf m call))) (listed call) ≡ true
     split true =
         more (eqb (first (checksOf m call)) 0) (eqb (first (checksOf m call)) 1) (isIn (first (checksOf m call)) (ownNumbers call))
@@ -110,6 +115,7 @@ one-exactly m call = split (isSound m)
     no-one (StoreContext bits) = refl
     no-one (StoreMask bits) = refl
     no-one (StoreMode mode) = refl
+
     split : (b : Bool) → eqb (pick (not b) 1 (first (checksOf m call))) 1 ≡ not b
     split true = other-number (first (checksOf m call)) 1 (0 ∷ ownNumbers call) (own-number m call) (no-one call)
     split false = refl
@@ -200,11 +206,142 @@ soundness-kept m call = split (isSound m) refl
         let user = violation-in-user-mode m call (e ∙ eqb-true n 9 nine) in
         moved-sound m (violated m) (refl, refl, refl) h (s .depth-most) (s .current-below) user
     refused n h e false nine = h
+
     called : isSound m ≡ true → (b : Bool) → eqb (numberOf m call) 0 ≡ b
         → isSound (pick b (effectOf m call) (pick (eqb (numberOf m call) 9) (violated m) m)) ≡ true
     called h true e = effect-sound m call h (eqb-true (numberOf m call) 0 e)
     called h false e = refused (numberOf m call) h refl (eqb (numberOf m call) 9) refl
+
     split : (b : Bool) → isSound m ≡ b
         → isSound (pick (eqb (numberOf m call) 0) (effectOf m call) (pick (eqb (numberOf m call) 9) (violated m) m)) ≡ b
     split true h = called h (eqb (numberOf m call) 0) refl
     split false h = rw h h
+
+-- what neither the effect of an accepted call nor a violation changes, no call changes
+kept-by-call : {A : Type 0} (part : Machine → A) (m : Machine) (call : Call) → (numberOf m call ≡ 0 → part (effectOf m call) ≡ part m)
+    → part (violated m) ≡ part m → part (callOf m call .machine) ≡ part m
+unfolding callOf after
+kept-by-call part m call effect violation = split (eqb (numberOf m call) 0) refl
+  where
+    flagged : (b : Bool) → part (pick b (violated m) m) ≡ part m
+    flagged true = violation
+    flagged false = refl
+
+    split : (b : Bool) → eqb (numberOf m call) 0 ≡ b
+        → part (pick b (effectOf m call) (pick (eqb (numberOf m call) 9) (violated m) m)) ≡ part m
+    split true e = effect (eqb-true (numberOf m call) 0 e)
+    split false e = flagged (eqb (numberOf m call) 9)
+
+-- no call changes the page count, the exponent or the program count
+shape : Machine → List ℕ
+shape m = m .pages ∷ m .exponent ∷ m .programs ∷ []
+
+pub shape-kept : (m : Machine) (call : Call)
+    → callOf m call .machine .pages ∷ callOf m call .machine .exponent ∷ callOf m call .machine .programs ∷ []
+    ≡ m .pages ∷ m .exponent ∷ m .programs ∷ []
+unfolding shape effectOf entered returned switched
+shape-kept m call = kept-by-call shape m call (λ n. effect call) refl
+  where
+    effect : (call : Call) → shape (effectOf m call) ≡ shape m
+    effect (Access right address) = refl
+    effect (Grant right page s) = refl
+    effect (Revoke right page s) = refl
+    effect (SetMask bits) = refl
+    effect Enter = refl
+    effect Return = refl
+    effect (Switch program) = refl
+    effect (StoreField right page bits) = refl
+    effect (StoreContext bits) = refl
+    effect (StoreMask bits) = refl
+    effect (StoreMode mode) = refl
+
+-- a right to a counted page has its field among the counted ones
+counted-place : (m : Machine) (right page : ℕ) (rest : List Check)
+    → first ((not (isRight right) ⇒ 2) ∷ (not (ltb page (m .pages)) ⇒ 4) ∷ rest) ≡ 0 → placeOf right page < 2 * m .pages
+counted-place m right page rest h =
+    let p = none-met (not (isRight right)) 2 ((not (ltb page (m .pages)) ⇒ 4) ∷ rest) h refl in
+    let q = none-met (not (ltb page (m .pages))) 4 rest (p .1) refl in
+    let a = leb-true right 1 (not-false (isRight right) (p .0)) in
+    let b = ltb-true page (m .pages) (not-false (ltb page (m .pages)) (q .0)) in
+    omega arith
+
+command-place : (m : Machine) (right : ℕ) (page : Page) (s : Domain) (prevails : Prevailing)
+    → first (commandChecks m right page s prevails) ≡ 0 → placeOf right (page .0) < 2 * m .pages
+unfolding commandChecks
+command-place m right page s prevails h =
+    counted-place m right (page .0)
+    ((not (isDomain (s .0)) ⇒ 5)
+    ∷ (inPrivilegedMode m ⇒ 6)
+    ∷ (m .registers .pending ⇒ 8)
+    ∷ (isOutside prevails (localContext (m .registers)) ⇒ 11)
+    ∷ (isNotLower prevails (s .0) ⇒ 12)
+    ∷ [])
+    h
+
+-- "An accepted call leaves such places as it found them": a field past the page count
+pub fields-left : (m : Machine) (call : Call) (i : ℕ) → 2 * m .pages ≤ i
+    → getD (callOf m call .machine .fields) i 0 ≡ getD (m .fields) i 0
+unfolding effectOf entered returned switched checksOf
+fields-left m call i past = kept-by-call (λ end. getD (end .fields) i 0) m call (effect call) refl
+  where
+    other : (at bits : ℕ) → at < 2 * m .pages → getD (set (m .fields) at bits) i 0 ≡ getD (m .fields) i 0
+    other at bits below = getD-set-other (m .fields) at i bits 0 (omega arith)
+
+    effect : (call : Call) → numberOf m call ≡ 0 → getD (effectOf m call .fields) i 0 ≡ getD (m .fields) i 0
+    effect (Access right address) n = refl
+    effect (Grant right page s) n = other (placeOf right (page .0)) _ (command-place m right page s _ (accepted m (Grant right page s) n .1))
+    effect (Revoke right page s) n = other (placeOf right (page .0)) _ (command-place m right page s _ (accepted m (Revoke right page s) n .1))
+    effect (SetMask bits) n = refl
+    effect Enter n = refl
+    effect Return n = refl
+    effect (Switch program) n = refl
+    effect (StoreField right page bits) n = other (placeOf right (page .0)) bits (counted-place m right (page .0) ((inUserMode m ⇒ 7) ∷ []) (accepted m (StoreField right page bits) n .1))
+    effect (StoreContext bits) n = refl
+    effect (StoreMask bits) n = refl
+    effect (StoreMode mode) n = refl
+
+-- a program's entry past the program count
+pub programs-left : (m : Machine) (call : Call) (i : ℕ) → m .programs ≤ i
+    → getD (callOf m call .machine .table) i noProgram ≡ getD (m .table) i noProgram
+unfolding effectOf entered returned switched
+programs-left m call i past = kept-by-call (λ end. getD (end .table) i noProgram) m call (effect call) refl
+  where
+    effect : (call : Call) → numberOf m call ≡ 0 → getD (effectOf m call .table) i noProgram ≡ getD (m .table) i noProgram
+    effect (Access right address) n = refl
+    effect (Grant right page s) n = refl
+    effect (Revoke right page s) n = refl
+    effect (SetMask bits) n = refl
+    effect Enter n = refl
+    effect Return n = refl
+    effect (Switch program) n =
+        let s = sound-facts m (accepted m (Switch program) n .0) in
+        getD-set-other (m .table) (m .current) i _ noProgram (omega arith)
+    effect (StoreField right page bits) n = refl
+    effect (StoreContext bits) n = refl
+    effect (StoreMask bits) n = refl
+    effect (StoreMode mode) n = refl
+
+-- a stack place past the depth, "save the stack place that an entry fills"
+pub stack-left : (m : Machine) (call : Call) (i : ℕ) → m .depth ≤ i → (call ≡ Enter → i ≡ m .depth → ⊥)
+    → getD (callOf m call .machine .saved) i noMode ≡ getD (m .saved) i noMode
+unfolding effectOf entered returned switched checksOf
+stack-left m call i past filled = kept-by-call (λ end. getD (end .saved) i noMode) m call (effect call filled) refl
+  where
+    effect : (call : Call) → (call ≡ Enter → i ≡ m .depth → ⊥) → numberOf m call ≡ 0
+        → getD (effectOf m call .saved) i noMode ≡ getD (m .saved) i noMode
+    effect (Access right address) f n = refl
+    effect (Grant right page s) f n = refl
+    effect (Revoke right page s) f n = refl
+    effect (SetMask bits) f n = refl
+    effect Enter f n = getD-set-other (m .saved) (m .depth) i _ noMode (f refl)
+    effect Return f n =
+        let c = none-met (inUserMode m) 7 ((eqb (m .depth) 0 ⇒ 14) ∷ []) (accepted m Return n .1) refl in
+        let e = eqb-false (m .depth) 0 (none-met (eqb (m .depth) 0) 14 [] (c .1) refl .0) in
+        getD-set-other (m .saved) (m .depth - 1) i _ noMode (omega arith)
+    effect (Switch program) f n =
+        let d = switch-depth m program n in
+        getD-set-other (m .saved) 0 i _ noMode (omega arith)
+    effect (StoreField right page bits) f n = refl
+    effect (StoreContext bits) f n = refl
+    effect (StoreMask bits) f n = refl
+    effect (StoreMode mode) f n = refl

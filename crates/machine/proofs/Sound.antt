@@ -1,6 +1,6 @@
 -- Soundness as numbers: what the tests of `isSound` say of a machine, and back.
-use Prim.Native.Nat.{ℕ, _≤_, _<_, _*_, _^_}
-use mathlib.Core.Path.{_≡_, refl, ap}
+use Prim.Native.Nat.{ℕ, _≤_, _<_}
+use mathlib.Core.Path.{_≡_, refl}
 use mathlib.Core.Bool.{Bool, true, false, not, _&&_}
 use borrow.Author.Tests.{leb-true, ltb-true, not-true, le-leb, lt-ltb}
 use lib.Dec.{leb, ltb}
@@ -133,5 +133,5 @@ moved-sound m end shape h deep below calm =
       programs-most = rw (shape .2) (s .programs-most);
       memory-most = rw (shape .0, shape .1) (s .memory-most);
       current-below = below;
-      calm = calm
+      calm = calm;
     })

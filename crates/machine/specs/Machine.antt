@@ -1,11 +1,10 @@
 -- The machine (document 01, "The machine").
 use Prim.Native.Nat.{ℕ, _+_, _*_, _^_}
-use mathlib.Core.Bool.{Bool, true, false, not, _&&_}
+use mathlib.Core.Bool.{Bool, false, not, _&&_}
 use mathlib.Core.List.{List}
 use lib.Dec.{leb, ltb}
-use lib.ListN.{replicate, getD, set}
+use lib.ListN.{replicate, getD}
 use Rattle.rules.specs.Registers.{isPrivileged}
-use Rattle.rules.specs.declared.registers.Mode.{Mode}
 use Rattle.rules.specs.declared.registers.Mode.the-variants.{User}
 use Rattle.rules.specs.declared.registers.Registers.{Registers}
 use Rattle.machine.specs.declared.record.Machine.{Machine}

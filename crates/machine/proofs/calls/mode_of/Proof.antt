@@ -2,14 +2,10 @@
 use borrow.Author.Tests.{eq-eqb, ne-eqb}
 use Rattle.machine.proofs.calls.mode_of.Statement.{statement}
 use Rattle.machine.proofs.calls.mode_of.Tie as tie
-use Rattle.machine.proofs.calls.mode_of.Reads as reads
-use Rattle.machine.proofs.calls.mode_of.Lts as lts
 
--- src/calls.rt:39:9
 returns : tie.Need-returns
 returns c = rw (eq-eqb (c .before .args .number) 0 (c .if1 .taken))
 
--- src/calls.rt:35:1
 returns-2 : tie.Need-returns-2
 returns-2 c = rw (ne-eqb (c .before .args .number) 0 (c .if1 .left))
 

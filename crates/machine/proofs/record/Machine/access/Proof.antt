@@ -14,43 +14,28 @@ use Rattle.machine.specs.declared.record.Call.the-variants.{Access}
 use borrow.Author.Needs.{needs}
 use Rattle.machine.proofs.record.Machine.access.Statement.{statement}
 use Rattle.machine.proofs.record.Machine.access.Tie as tie
-use Rattle.machine.proofs.record.Machine.access.Reads as reads
-use Rattle.machine.proofs.record.Machine.access.Lts as lts
-use Rattle.machine.proofs.record.Machine.access_at.Reads as access-at-reads
-use Rattle.machine.proofs.record.page_of.Reads as page-of-reads
-use Rattle.machine.proofs.record.place.Reads as place-reads
-use Rattle.rules.proofs.registers.Registers.or_where.Reads as or-where-reads
-use Rattle.rules.proofs.registers.Registers.with_pending.Reads as with-pending-reads
 
--- src/calls.rt:74:31
 page-of-requires : tie.Need-page-of-requires
 page-of-requires c κs = search needs
 
--- src/calls.rt:74:13
 place-requires : tie.Need-place-requires
 place-requires c κs = search needs
 
--- src/calls.rt:78:21
 mul-field : tie.Need-mul-field
 mul-field c = search needs
 
--- src/calls.rt:78:21
 array-read-field : tie.Need-array-read-field
 array-read-field c = search needs
 
--- src/calls.rt:80:13
 access-at-requires : tie.Need-access-at-requires
 access-at-requires c κs = search needs
 
--- src/calls.rt:81:53
 with-pending-requires : tie.Need-with-pending-requires
 with-pending-requires c κs = search needs
 
--- src/calls.rt:81:13
 or-where-requires : tie.Need-or-where-requires
 or-where-requires c κs = search needs
 
--- src/calls.rt:70:5
 field-read : (c : tie.Joined1)
     → c .if1 .field ≡ getD (c .before .before .before .before .before .args .self .fields) (c .before .before .place .result) 0
 field-read c =

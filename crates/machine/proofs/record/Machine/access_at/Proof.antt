@@ -14,40 +14,25 @@ use Rattle.machine.proofs.Sound.{where-sound}
 use borrow.Author.Needs.{needs}
 use Rattle.machine.proofs.record.Machine.access_at.Statement.{statement}
 use Rattle.machine.proofs.record.Machine.access_at.Tie as tie
-use Rattle.machine.proofs.record.Machine.access_at.Reads as reads
-use Rattle.machine.proofs.record.Machine.access_at.Lts as lts
-use Rattle.machine.proofs.record.Machine.sound.Reads as sound-reads
-use Rattle.machine.proofs.record.memory_size.Reads as memory-size-reads
-use Rattle.rules.proofs.decisions.access_number.Reads as access-number-reads
-use Rattle.rules.proofs.decisions.checked.Reads as checked-reads
-use Rattle.rules.proofs.registers.Registers.local.Reads as local-reads
-use Rattle.rules.proofs.registers.Registers.privileged.Reads as privileged-reads
 
--- src/calls.rt:62:13
 memory-size-requires : tie.Need-memory-size-requires
 memory-size-requires c κs = search needs
 
--- src/calls.rt:63:13
 privileged-requires : tie.Need-privileged-requires
 privileged-requires c κs = search needs
 
--- src/calls.rt:65:21
 local-requires : tie.Need-local-requires
 local-requires c κs = search needs
 
--- src/calls.rt:60:13
 access-number-requires : tie.Need-access-number-requires
 access-number-requires c κs = search needs
 
--- src/calls.rt:67:18
 sound-requires : tie.Need-sound-requires
 sound-requires c κs = search needs
 
--- src/calls.rt:67:9
 checked-requires : tie.Need-checked-requires
 checked-requires c κs = search needs
 
--- src/calls.rt:56:5
 returns : tie.Need-returns
 unfolding accessChecks
 returns c =
@@ -61,8 +46,14 @@ returns c =
     ∷ (leb memory (a .address) ⇒ 3)
     ∷ pick (isPrivileged (r .mode)) [] ((r .pending ⇒ 8) ∷ (eqb (bitAnd (a .field) (localContext r)) 0 ⇒ 9) ∷ [])) in
     let guarded : c .checked .result ≡ pick (not (isSound m)) 1 (number (pick (leb (m .exponent) 12) (memorySize m) 0)) =
-    rw (c .checked .ensures, c .before .before .access-number .ensures, c .before .before .before .local .ensures, c .before .before .before .before .privileged .ensures,
-    c .before .before .before .before .before .memory-size .ensures, c .before .sound .ensures) in
+    rw (
+      c .checked .ensures,
+      c .before .before .access-number .ensures,
+      c .before .before .before .local .ensures,
+      c .before .before .before .before .privileged .ensures,
+      c .before .before .before .before .before .memory-size .ensures,
+      c .before .sound .ensures,
+    ) in
     guarded ∙ where-sound m number (memorySize m)
 
 pub access-at-spec : {M : Type 1} → statement M

@@ -13,50 +13,34 @@ use Rattle.machine.specs.declared.record.Call.the-variants.{Grant, Revok
 use borrow.Author.Needs.{needs}
 use Rattle.machine.proofs.record.Machine.change_right.Statement.{statement}
 use Rattle.machine.proofs.record.Machine.change_right.Tie as tie
-use Rattle.machine.proofs.record.Machine.change_right.Reads as reads
-use Rattle.machine.proofs.record.Machine.change_right.Lts as lts
-use Rattle.machine.proofs.calls.changed.Reads as changed-reads
-use Rattle.machine.proofs.calls.chosen.Reads as chosen-reads
-use Rattle.machine.proofs.record.Machine.change_number.Reads as change-number-reads
-use Rattle.machine.proofs.record.place.Reads as place-reads
 
--- src/calls.rt:108:31
 cast-place : tie.Need-cast-place
 cast-place c = search needs
 
--- src/calls.rt:108:13
 place-requires : tie.Need-place-requires
 place-requires c κs = search needs
 
--- src/calls.rt:112:21
 mul-field : tie.Need-mul-field
 mul-field c = search needs
 
--- src/calls.rt:112:21
 array-read-field : tie.Need-array-read-field
 array-read-field c = search needs
 
--- src/calls.rt:114:13
 change-number-requires : tie.Need-change-number-requires
 change-number-requires c κs = search needs
 
--- src/calls.rt:115:40
 changed-requires : tie.Need-changed-requires
 changed-requires c κs = search needs
 
--- src/calls.rt:115:13
 chosen-requires : tie.Need-chosen-requires
 chosen-requires c κs = search needs
 
--- src/calls.rt:117:13
 mul-fields : tie.Need-mul-fields
 mul-fields c = search needs
 
--- src/calls.rt:117:13
 array-write-fields : tie.Need-array-write-fields
 array-write-fields c = search needs
 
--- src/calls.rt:105:5
 long : (c : tie.Start) → length (c .args .self .fields) ≡ 256
 long c = search needs
 

@@ -11,47 +11,31 @@ use Rattle.machine.specs.declared.record.Call.the-variants.{Enter}
 use borrow.Author.Needs.{needs}
 use Rattle.machine.proofs.record.Machine.enter.Statement.{statement}
 use Rattle.machine.proofs.record.Machine.enter.Tie as tie
-use Rattle.machine.proofs.record.Machine.enter.Reads as reads
-use Rattle.machine.proofs.record.Machine.enter.Lts as lts
-use Rattle.machine.proofs.record.Machine.sound.Reads as sound-reads
-use Rattle.rules.proofs.decisions.checked.Reads as checked-reads
-use Rattle.rules.proofs.decisions.entry_number.Reads as entry-number-reads
-use Rattle.rules.proofs.registers.Registers.with_mode.Reads as with-mode-reads
-use Rattle.rules.proofs.registers.Registers.with_pending.Reads as with-pending-reads
 
--- src/calls.rt:152:31
 sound-requires : tie.Need-sound-requires
 sound-requires c κs = search needs
 
--- src/calls.rt:152:45
 entry-number-requires : tie.Need-entry-number-requires
 entry-number-requires c κs = search needs
 
--- src/calls.rt:152:13
 checked-requires : tie.Need-checked-requires
 checked-requires c κs = search needs
 
--- src/calls.rt:155:19
 cast-saved : tie.Need-cast-saved
 cast-saved c = search needs
 
--- src/calls.rt:155:13
 array-set-from-saved : tie.Need-array-set-from-saved
 array-set-from-saved c = search needs
 
--- src/calls.rt:156:25
 with-pending-requires : tie.Need-with-pending-requires
 with-pending-requires c κs = search needs
 
--- src/calls.rt:156:13
 with-mode-requires : tie.Need-with-mode-requires
 with-mode-requires c κs = search needs
 
--- src/calls.rt:157:13
 add-depth : tie.Need-add-depth
 add-depth c = omega (arith, ltb-true (c .before .before .before .before .before .before .before .before .before .args .self .depth) 8 (c .before .before .if2 .taken))
 
--- src/calls.rt:146:5
 returns : tie.Need-returns
 unfolding checksOf effectOf entered
 returns c =

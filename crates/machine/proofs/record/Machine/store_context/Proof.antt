@@ -6,45 +6,30 @@ use mathlib.Core.Path.{refl}
 use borrow.Author.Needs.{needs}
 use Rattle.machine.proofs.record.Machine.store_context.Statement.{statement}
 use Rattle.machine.proofs.record.Machine.store_context.Tie as tie
-use Rattle.machine.proofs.record.Machine.store_context.Reads as reads
-use Rattle.machine.proofs.record.Machine.store_context.Lts as lts
-use Rattle.machine.proofs.record.Machine.sound.Reads as sound-reads
-use Rattle.rules.proofs.decisions.checked.Reads as checked-reads
-use Rattle.rules.proofs.decisions.register_number.Reads as register-number-reads
-use Rattle.rules.proofs.registers.Registers.or_where.Reads as or-where-reads
-use Rattle.rules.proofs.registers.Registers.privileged.Reads as privileged-reads
-use Rattle.rules.proofs.registers.Registers.with_context.Reads as with-context-reads
 
--- src/calls.rt:242:31
 sound-requires : tie.Need-sound-requires
 sound-requires c κs = search needs
 
--- src/calls.rt:242:62
 privileged-requires : tie.Need-privileged-requires
 privileged-requires c κs = search needs
 
--- src/calls.rt:242:45
 register-number-requires : tie.Need-register-number-requires
 register-number-requires c κs = search needs
 
--- src/calls.rt:242:13
 checked-requires : tie.Need-checked-requires
 checked-requires c κs = search needs
 
--- src/calls.rt:243:53
 with-context-requires : tie.Need-with-context-requires
 with-context-requires c κs = search needs
 
--- src/calls.rt:243:13
 or-where-requires : tie.Need-or-where-requires
 or-where-requires c κs = search needs
 
--- src/calls.rt:238:5
 returns : tie.Need-returns
 unfolding checksOf effectOf
 returns c =
     let a = c .before .before .before .before .before .before .before .args in
-    registers-answered (a .self) (StoreContext (a .bits)) 
+    registers-answered (a .self) (StoreContext (a .bits))
     (rw (c .before .before .checked .ensures, c .before .before .before .register-number .ensures, c .before .before .before .before .privileged .ensures, c .before .before .before .before .before .sound .ensures))
     refl refl (rw (c .or-where .ensures, c .before .with-context .ensures))
 

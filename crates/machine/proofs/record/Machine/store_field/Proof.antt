@@ -12,60 +12,40 @@ use Rattle.machine.specs.declared.record.Call.the-variants.{StoreField}
 use borrow.Author.Needs.{needs}
 use Rattle.machine.proofs.record.Machine.store_field.Statement.{statement}
 use Rattle.machine.proofs.record.Machine.store_field.Tie as tie
-use Rattle.machine.proofs.record.Machine.store_field.Reads as reads
-use Rattle.machine.proofs.record.Machine.store_field.Lts as lts
-use Rattle.machine.proofs.calls.chosen.Reads as chosen-reads
-use Rattle.machine.proofs.record.Machine.sound.Reads as sound-reads
-use Rattle.machine.proofs.record.place.Reads as place-reads
-use Rattle.rules.proofs.decisions.checked.Reads as checked-reads
-use Rattle.rules.proofs.decisions.field_number.Reads as field-number-reads
-use Rattle.rules.proofs.registers.Registers.privileged.Reads as privileged-reads
 
--- src/calls.rt:231:31
 cast-place : tie.Need-cast-place
 cast-place c = search needs
 
--- src/calls.rt:231:13
 place-requires : tie.Need-place-requires
 place-requires c κs = search needs
 
--- src/calls.rt:235:21
 mul-field : tie.Need-mul-field
 mul-field c = search needs
 
--- src/calls.rt:235:21
 array-read-field : tie.Need-array-read-field
 array-read-field c = search needs
 
--- src/calls.rt:238:14
 sound-requires : tie.Need-sound-requires
 sound-requires c κs = search needs
 
--- src/calls.rt:239:66
 privileged-requires : tie.Need-privileged-requires
 privileged-requires c κs = search needs
 
--- src/calls.rt:239:13
 field-number-requires : tie.Need-field-number-requires
 field-number-requires c κs = search needs
 
--- src/calls.rt:237:13
 checked-requires : tie.Need-checked-requires
 checked-requires c κs = search needs
 
--- src/calls.rt:241:13
 chosen-requires : tie.Need-chosen-requires
 chosen-requires c κs = search needs
 
--- src/calls.rt:243:13
 mul-fields : tie.Need-mul-fields
 mul-fields c = search needs
 
--- src/calls.rt:243:13
 array-write-fields : tie.Need-array-write-fields
 array-write-fields c = search needs
 
--- src/calls.rt:227:5
 long : (c : tie.Start) → length (c .args .self .fields) ≡ 256
 long c = search needs
 

@@ -1,22 +1,16 @@
 use borrow.Author.Needs.{needs}
 use Rattle.rules.proofs.domains.Prevailing.not_lower.Statement.{statement}
 use Rattle.rules.proofs.domains.Prevailing.not_lower.Tie as tie
-use Rattle.rules.proofs.domains.Prevailing.not_lower.Reads as reads
-use Rattle.rules.proofs.domains.Prevailing.not_lower.Lts as lts
 
--- src/domains.rt:56:35
 enum-told : tie.Need-enum-told
 enum-told c = search needs
 
--- src/domains.rt:57:28
 enum-known-self : tie.Need-enum-known-self
 enum-known-self c = search needs
 
--- src/domains.rt:52:5
 returns : tie.Need-returns
 returns c = search needs
 
--- src/domains.rt:52:5
 returns-2 : tie.Need-returns-2
 returns-2 c = rw (c .before .self .given .1)
 
