@@ -112,3 +112,8 @@ return-restores m long n =
       ap (λ (end : Machine). getD (end .saved) (m .depth - 1) noMode) end
           ∙ getD-set-same (m .saved) (m .depth - 1) noMode noMode (omega arith),
     )
+
+-- "Only 9 changes anything: it sets the flag."
+pub violation-sets-flag : (m : Machine) (call : Call) → callOf m call .number ≡ 9 → callOf m call .machine .registers .pending ≡ true
+unfolding callOf after
+violation-sets-flag m call n = rw n
