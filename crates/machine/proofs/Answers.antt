@@ -94,17 +94,26 @@ module _ (m : Machine) (call : Call) where
       split true = refl
       split false = refl
 
--- the field at a place, stored where the call was accepted and stored back as it was where not; past the end, nothing
-pub stored : (l : List ℕ) (at : ℕ) (b : Bool) (new : ℕ) → set l at (pick b new (getD l at 0)) ≡ pick b (set l at new) l
+-- the field at a place, stored where the call was accepted and stored back as it was where not
+stored : (l : List ℕ) (at : ℕ) (b : Bool) (new : ℕ) → set l at (pick b new (getD l at 0)) ≡ pick b (set l at new) l
 stored l at true new = refl
 stored l at false new = set-getD l at 0
 
+-- past the end of the fields nothing is read, and nothing is stored
 pub past-read : (l : List ℕ) {n at : ℕ} → length l ≡ n → n ≤ at → 0 ≡ getD l at 0
 past-read l {n} {at} long h = sym (List·getD-eq-default l 0 (rw long h))
 
-pub past-end : (l : List ℕ) (at : ℕ) (b : Bool) (new : ℕ) → length l ≤ at → l ≡ pick b (set l at new) l
-past-end l at true new h = sym (set-out l at new h)
-past-end l at false new h = refl
+pub past-store : (l : List ℕ) {n at : ℕ} (bits : ℕ) → length l ≡ n → n ≤ at → l ≡ set l at bits
+past-store l {n} {at} bits long h = sym (set-out l at bits (rw long h))
+
+-- a call that stores a field where it is accepted, from the field that it read
+pub store-answered : (m : Machine) (call : Call) {n : ℕ} {fields : List ℕ} {field bits : ℕ} (at new : ℕ)
+    → field ≡ getD (m .fields) at 0 → n ≡ numberOf m call → avoids 9 (checksOf m call) ≡ true
+    → effectOf m call ≡ withFields (set (m .fields) at new) m → bits ≡ pick (eqb n 0) new field → fields ≡ set (m .fields) at bits
+    → _≡_ {A = Answered} (record { number = n; machine = withFields fields m }) (callOf m call)
+store-answered m call {n} {fields} {field} {bits} at new read number never effect chosen written =
+    field-answered m call at new number never effect
+    (written ∙ rw (chosen, read) (stored (m .fields) at (eqb n 0) new))
 
 -- grant and revoke have one list of conditions, and effects that differ in the bit operation alone
 module _ (m : Machine) (right : ℕ) (page : Page) (s : Domain) where
@@ -120,6 +129,19 @@ module _ (m : Machine) (right : ℕ) (page : Page) (s : Domain) where
   unfolding effectOf
   change-effect true = refl
   change-effect false = refl
+
+  -- a grant or a revocation, from what its code read, worked out and stored
+  pub change-answered : (granting : Bool) {n : ℕ} {fields : List ℕ} {field at bits : ℕ}
+      → field ≡ getD (m .fields) at 0 → at ≡ placeOf right (page .0)
+      → n ≡ pick (not (isSound m)) 1 (first (commandChecks m right page s (prevailing field)))
+      → bits ≡ pick (eqb n 0) (pick granting (withBit field (s .0)) (withoutBit field (s .0))) field → fields ≡ set (m .fields) at bits
+      → _≡_ {A = Answered} (record { number = n; machine = withFields fields m })
+      (callOf m (pick granting (Grant right page s) (Revoke right page s)))
+  unfolding commandChecks
+  change-answered granting {n} {fields} {field} {at} {bits} read place number chosen written =
+      let call = pick granting (Grant right page s) (Revoke right page s) in
+      store-answered m call at _ read (rw (change-checks granting) (number ∙ rw (read, place))) (rw (change-checks granting))
+      (change-effect granting ∙ rw (← place, ← read)) chosen written
 
 -- an access changes nothing but the flag, and that where it answers 9
 pub access-answered : (m : Machine) (right address : ℕ) {n : ℕ} {r : Registers} → n ≡ numberOf m (Access right address)

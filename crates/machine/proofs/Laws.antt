@@ -10,8 +10,6 @@ use lib.Dec.{leb, ltb, eqb}
 use lib.ListN.{getD, set}
 use lib.Seq.{getD-set-other}
 use Rattle.rules.specs.Registers.{isPrivileged, localContext}
-use Rattle.rules.specs.Domains.{isDomain, isOutside, isNotLower}
-use Rattle.rules.specs.declared.domains.Prevailing.{Prevailing}
 use Rattle.rules.specs.Refusals.{Check, _⇒_, first, pick}
 use Rattle.rules.specs.declared.registers.Mode.{Mode}
 use Rattle.machine.specs.Machine.{isSound, memorySize, fieldOf, placeOf, noMode, noProgram}
@@ -23,6 +21,7 @@ use Rattle.machine.specs.declared.record.Domain.{Domain}
 use Rattle.machine.specs.declared.record.Call.{Call}
 use Rattle.machine.specs.declared.record.Call.the-variants.{Access, Grant, Revoke, SetMask, Enter, Return, Switch, StoreField, StoreContext, StoreMask, StoreMode}
 use Rattle.machine.proofs.Sound.{sound-facts, moved-sound}
+use Rattle.machine.proofs.Entitled.{entitled}
 use Rattle.machine.proofs.Answers.{avoids, first-avoids, none-met, accepted, entry-below, switch-named, switch-depth}
 
 -- every number of a list of conditions is in a list of numbers, and so is 0
@@ -255,28 +254,23 @@ shape-kept m call = kept-by-call shape m call (λ n. effect call) refl
     effect (StoreMask bits) = refl
     effect (StoreMode mode) = refl
 
--- a right to a counted page has its field among the counted ones
-counted-place : (m : Machine) (right page : ℕ) (rest : List Check)
-    → first ((not (isRight right) ⇒ 2) ∷ (not (ltb page (m .pages)) ⇒ 4) ∷ rest) ≡ 0 → placeOf right page < 2 * m .pages
-counted-place m right page rest h =
-    let p = none-met (not (isRight right)) 2 ((not (ltb page (m .pages)) ⇒ 4) ∷ rest) h refl in
-    let q = none-met (not (ltb page (m .pages))) 4 rest (p .1) refl in
-    let a = leb-true right 1 (not-false (isRight right) (p .0)) in
-    let b = ltb-true page (m .pages) (not-false (ltb page (m .pages)) (q .0)) in
-    omega arith
+-- the field of an accepted grant or revocation, and of an accepted store, is among the counted ones
+change-place : (m : Machine) (granting : Bool) (right : ℕ) (page : Page) (s : Domain)
+    → numberOf m (pick granting (Grant right page s) (Revoke right page s)) ≡ 0 → placeOf right (page .0) < 2 * m .pages
+change-place m granting right page s n =
+    let e = entitled m granting right page s n in
+    omega (arith, e .right-known, e .page-counted)
 
-command-place : (m : Machine) (right : ℕ) (page : Page) (s : Domain) (prevails : Prevailing)
-    → first (commandChecks m right page s prevails) ≡ 0 → placeOf right (page .0) < 2 * m .pages
-unfolding commandChecks
-command-place m right page s prevails h =
-    counted-place m right (page .0)
-    ((not (isDomain (s .0)) ⇒ 5)
-    ∷ (inPrivilegedMode m ⇒ 6)
-    ∷ (m .registers .pending ⇒ 8)
-    ∷ (isOutside prevails (localContext (m .registers)) ⇒ 11)
-    ∷ (isNotLower prevails (s .0) ⇒ 12)
-    ∷ [])
-    h
+store-place : (m : Machine) (right : ℕ) (page : Page) (bits : ℕ) → numberOf m (StoreField right page bits) ≡ 0
+    → placeOf right (page .0) < 2 * m .pages
+unfolding checksOf
+store-place m right page bits n =
+    let counted = ltb (page .0) (m .pages) in
+    let p = none-met (not (isRight right)) 2 ((not counted ⇒ 4) ∷ (inUserMode m ⇒ 7) ∷ []) (accepted m (StoreField right page bits) n .1) refl in
+    let q = none-met (not counted) 4 ((inUserMode m ⇒ 7) ∷ []) (p .1) refl in
+    let a = leb-true right 1 (not-false (isRight right) (p .0)) in
+    let b = ltb-true (page .0) (m .pages) (not-false counted (q .0)) in
+    omega arith
 
 -- "An accepted call leaves such places as it found them": a field past the page count
 pub fields-left : (m : Machine) (call : Call) (i : ℕ) → 2 * m .pages ≤ i
@@ -289,13 +283,13 @@ fields-left m call i past = kept-by-call (λ end. getD (end .fields) i 0) m call
 
     effect : (call : Call) → numberOf m call ≡ 0 → getD (effectOf m call .fields) i 0 ≡ getD (m .fields) i 0
     effect (Access right address) n = refl
-    effect (Grant right page s) n = other (placeOf right (page .0)) _ (command-place m right page s _ (accepted m (Grant right page s) n .1))
-    effect (Revoke right page s) n = other (placeOf right (page .0)) _ (command-place m right page s _ (accepted m (Revoke right page s) n .1))
+    effect (Grant right page s) n = other (placeOf right (page .0)) _ (change-place m true right page s n)
+    effect (Revoke right page s) n = other (placeOf right (page .0)) _ (change-place m false right page s n)
     effect (SetMask bits) n = refl
     effect Enter n = refl
     effect Return n = refl
     effect (Switch program) n = refl
-    effect (StoreField right page bits) n = other (placeOf right (page .0)) bits (counted-place m right (page .0) ((inUserMode m ⇒ 7) ∷ []) (accepted m (StoreField right page bits) n .1))
+    effect (StoreField right page bits) n = other (placeOf right (page .0)) bits (store-place m right page bits n)
     effect (StoreContext bits) n = refl
     effect (StoreMask bits) n = refl
     effect (StoreMode mode) n = refl

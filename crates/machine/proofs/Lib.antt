@@ -1,5 +1,8 @@
 pub mod Sound
 pub mod Answers
+pub mod Entitled
 pub mod Laws
 pub mod Readings
 pub mod Cases
+pub mod View
+pub mod Turn

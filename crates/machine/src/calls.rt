@@ -27,7 +27,7 @@ use rules::registers::Registers;
 ghost use mathlib.Core.Path.{_≡_};
 ghost use mathlib.Core.Bool.{not};
 ghost use Prim.Native.Nat.{_-_};
-ghost use Rattle.rules.specs.Domains.{prevailing, withBit, withoutBit};
+ghost use Rattle.rules.specs.Domains.{prevailing};
 ghost use Rattle.rules.specs.Refusals.{pick, first};
 ghost use Rattle.machine.specs.Machine.{isSound};
 ghost use Rattle.machine.specs.declared.record.Call.{Call};
@@ -38,16 +38,6 @@ fn chosen(done: bool, new: u16, old: u16) -> u16
     ensures { λ r. ⌜ r ≡ pick done new old ⌝ }
 {
     if done { new } else { old }
-}
-
-// A field with bit s set, or cleared.
-fn changed(granting: bool, field: u16, s: u16) -> u16
-    ensures { λ r. ⌜ r ≡ pick granting (withBit field s) (withoutBit field s) ⌝ }
-{
-    if granting {
-        return with_bit(field, s);
-    }
-    without_bit(field, s)
 }
 
 // The place below a depth.
@@ -123,9 +113,8 @@ impl Machine {
         checked(!self.sound(), number)
     }
 
-    // Grant, or revoke: the two differ in the bit operation alone.
-    pub fn change_right(mut self, granting: bool, right: u8, page: Page, domain: Domain) -> Answered
-        ensures { λ r. ⌜ r ≡ callOf self (pick granting (Call.Grant right page domain) (Call.Revoke right page domain)) ⌝ }
+    pub fn grant(mut self, right: u8, page: Page, domain: Domain) -> Answered
+        ensures { λ r. ⌜ r ≡ callOf self (Call.Grant right page domain) ⌝ }
     {
         let at = place(right, page.0 as u32);
         let mut fields = self.fields;
@@ -134,7 +123,7 @@ impl Machine {
             field = fields[at];
         }
         let number = self.change_number(right, page, domain, field);
-        let bits = chosen(number == 0, changed(granting, field, domain.0), field);
+        let bits = chosen(number == 0, with_bit(field, domain.0), field);
         if at < 256 {
             fields[at] = bits;
         }
@@ -145,16 +134,25 @@ impl Machine {
         }
     }
 
-    pub fn grant(self, right: u8, page: Page, domain: Domain) -> Answered
-        ensures { λ r. ⌜ r ≡ callOf self (Call.Grant right page domain) ⌝ }
-    {
-        self.change_right(true, right, page, domain)
-    }
-
-    pub fn revoke(self, right: u8, page: Page, domain: Domain) -> Answered
+    pub fn revoke(mut self, right: u8, page: Page, domain: Domain) -> Answered
         ensures { λ r. ⌜ r ≡ callOf self (Call.Revoke right page domain) ⌝ }
     {
-        self.change_right(false, right, page, domain)
+        let at = place(right, page.0 as u32);
+        let mut fields = self.fields;
+        let mut field: u16 = 0;
+        if at < 256 {
+            field = fields[at];
+        }
+        let number = self.change_number(right, page, domain, field);
+        let bits = chosen(number == 0, without_bit(field, domain.0), field);
+        if at < 256 {
+            fields[at] = bits;
+        }
+        self.fields = fields;
+        Answered {
+            number,
+            machine: self,
+        }
     }
 
     pub fn set_mask(mut self, mask: u16) -> Answered

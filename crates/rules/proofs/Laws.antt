@@ -3,14 +3,13 @@
 use Prim.Native.Nat.{ℕ, _≤_, _<_, _^_}
 use mathlib.Core.Path.{_≡_, refl}
 use mathlib.Core.Bool.{true, false}
-use mathlib.Core.List.{List, [], _∷_, map}
+use mathlib.Core.List.{[], _∷_, map}
 use native.Mathlib.Nat.{le-refl}
 use borrow.Author.Tests.{lt-ltb, le-ltb, le-leb}
 use lib.Count.{trailingZeros}
 use Rattle.rules.specs.Registers.{localContext}
 use Rattle.rules.specs.Domains.{domainBit, prevailing, isOutside, isNotLower, withBit, withoutBit}
 use Rattle.rules.specs.declared.registers.Mode.the-variants.{User}
-use Rattle.rules.specs.declared.domains.Prevailing.{Prevailing}
 use Rattle.rules.specs.declared.domains.Prevailing.the-variants.{Absent, At}
 
 -- "bit s is domain s", for the sixteen domains and no other number

@@ -1,0 +1,201 @@
+-- The third demand at the sample node (document 01, "Sample node"), computed from the definitions: what a history shows,
+-- what is compared, and that the premise is met for program 0 and is missed, and needed, for program 1.
+use Prim.Native.Nat.{ℕ, zero, suc, _≤_, _<_}
+use mathlib.Core.Path.{_≡_, refl, sym, ap, _∙_}
+use mathlib.Core.Bool.{true, false}
+use mathlib.Core.List.{List, [], _∷_, _++_, map}
+use lib.Count.{trailingZeros}
+use lib.ListN.{getD, replicate}
+use native.Mathlib.Omega.{arith}
+use Rattle.rules.specs.Domains.{domainBit, holds, prevailing}
+use Rattle.rules.specs.declared.domains.Prevailing.the-variants.{At}
+use Rattle.rules.specs.declared.registers.Mode.{Mode}
+use Rattle.rules.specs.declared.registers.Mode.the-variants.{User, Privileged}
+use Rattle.machine.specs.Machine.{fieldOf, isSound, noMode, noProgram}
+use Rattle.machine.specs.Calls.{accessChecks, after, callOf, checksOf, commandChecks, effectOf, entered, returned, switched}
+use Rattle.machine.specs.declared.record.Machine.{Machine}
+use Rattle.machine.specs.declared.record.Page.{Page}
+use Rattle.machine.specs.declared.record.Domain.{Domain}
+use Rattle.machine.specs.declared.record.Call.the-variants.{Access, Enter, Grant, Return, Revoke, SetMask, Switch}
+use Rattle.isolation.specs.Histories.{Command, access, grant, revoke, setMask, History}
+use Rattle.isolation.specs.Isolation.{Apart, Isolated, Observation, contextOf, observed, observedFrom, ownTurns, rightsOf}
+use Rattle.isolation.proofs.Isolation.{isolation}
+use Rattle.isolation.proofs.Settled.{Started}
+
+-- the machine that the sample image loads to, with any count of programs and any mode stored for program 0
+abbrev node : ℕ → Mode → Machine
+node programs mode =
+    record {
+      pages = 3;
+      exponent = 8;
+      fields = (0x0009 ∷ 0x0000 ∷ 0x000A ∷ 0x0002 ∷ 0x000C ∷ 0x0004 ∷ []) ++ replicate 250 0;
+      registers = record { context = 0x0007; mask = 0x0003; mode = mode; pending = false };
+      depth = 0;
+      saved = replicate 8 noMode;
+      programs = programs;
+      current = 0;
+      table =
+          record { context = 0x0007; mask = 0x0003; mode = mode }
+          ∷ record { context = 0x0008; mask = 0xFFFF; mode = User }
+          ∷ replicate 6 noProgram;
+    }
+
+abbrev sample : Machine
+sample = node 2 User
+
+node-started : (programs : ℕ) (mode : Mode) → isSound (node programs mode) ≡ true → Started (node programs mode)
+node-started programs mode sound =
+    record { sound = sound; depth = refl; table-long = refl; saved-long = refl; live = refl; contexts-small = small }
+  where
+    past : (n at : ℕ) → getD (replicate n noProgram) at noProgram .context < 65536
+    past zero at = omega arith
+    past (suc n) zero = omega arith
+    past (suc n) (suc at) = past n at
+
+    small : (program : ℕ) → contextOf (node programs mode) program < 65536
+    small zero = omega arith
+    small (suc zero) = omega arith
+    small (suc (suc program)) = past 6 program
+
+abbrev page : ℕ → Page
+page n = record { 0 = n }
+
+abbrev domain : ℕ → Domain
+domain n = record { 0 = n }
+
+abbrev shown : ℕ → List ℕ → List ℕ → Observation
+shown number before after = record { number = number; before = before; after = after }
+
+-- READ and WRITE of the three pages to the domains 0, 1 and 2, without domain 1 on READ of page 0 and with it
+abbrev plain : List ℕ
+plain = 1 ∷ 0 ∷ 2 ∷ 2 ∷ 4 ∷ 4 ∷ []
+
+abbrev granted : List ℕ
+granted = 3 ∷ 0 ∷ 2 ∷ 2 ∷ 4 ∷ 4 ∷ []
+
+-- ---- a history of programs 0, 1 and 0 twice more, as program 0 sees it
+abbrev mixed : History
+mixed =
+    record {
+      opening = grant 0 (page 0) (domain 1) ∷ access 1 0 ∷ setMask 0x0007 ∷ [];
+      turns =
+          record { program = 1; commands = access 0 0 ∷ access 1 0 ∷ [] }
+          ∷ record { program = 0; commands = revoke 0 (page 0) (domain 1) ∷ [] }
+          ∷ record { program = 0; commands = [] }
+          ∷ [];
+    }
+
+mixed-own : ownTurns sample 0 mixed
+    ≡ (Grant 0 (page 0) (domain 1) ∷ Access 1 0 ∷ SetMask 0x0007 ∷ [])
+    ∷ (Enter ∷ Switch 0 ∷ Return ∷ Revoke 0 (page 0) (domain 1) ∷ [])
+    ∷ (Enter ∷ Switch 0 ∷ Return ∷ [])
+    ∷ []
+mixed-own = refl
+
+-- a grant, a violation, and a mask command that is refused since the flag is set; then entry, switch, return and a
+-- revocation; then entry, switch to itself and return
+mixed-observed : observed sample 0 mixed
+    ≡ shown 0 plain granted
+    ∷ shown 9 granted granted
+    ∷ shown 8 granted granted
+    ∷ shown 0 granted granted
+    ∷ shown 0 granted granted
+    ∷ shown 0 granted granted
+    ∷ shown 0 granted plain
+    ∷ shown 0 plain plain
+    ∷ shown 0 plain plain
+    ∷ shown 0 plain plain
+    ∷ []
+unfolding observed observedFrom rightsOf callOf checksOf accessChecks commandChecks effectOf entered switched returned after isSound domainBit prevailing trailingZeros
+mixed-observed = refl
+
+-- ---- "The premise of the third demand is met for program 0."
+
+-- program 1 holds domain 3 alone, which prevails nowhere
+prevails-not : (level domain : ℕ) → holds 0x0008 level ≡ false → At level ≡ At domain → holds 0x0008 domain ≡ true → ⊥
+prevails-not level domain lacks e held =
+    let same : level ≡ domain = cc in
+    let seen : true ≡ false = sym held ∙ ap (holds 0x0008) (sym same) ∙ lacks in
+    let never : _≡_ {A = ℕ} 0 1 = cc in
+    omega arith
+
+nowhere : (right page domain : ℕ) → right ≤ 1 → page < 3 → prevailing (fieldOf sample right page) ≡ At domain
+    → holds 0x0008 domain ≡ true → ⊥
+unfolding prevailing trailingZeros domainBit
+nowhere zero zero domain known counted prevails held = prevails-not 0 domain refl prevails held
+nowhere zero (suc zero) domain known counted prevails held = prevails-not 1 domain refl prevails held
+nowhere zero (suc (suc zero)) domain known counted prevails held = prevails-not 2 domain refl prevails held
+nowhere zero (suc (suc (suc page))) domain known counted prevails held = omega arith
+nowhere (suc zero) zero domain known counted prevails held =
+    let never : _≡_ {A = ℕ} 0 1 = cc in
+    omega arith
+nowhere (suc zero) (suc zero) domain known counted prevails held = prevails-not 1 domain refl prevails held
+nowhere (suc zero) (suc (suc zero)) domain known counted prevails held = prevails-not 2 domain refl prevails held
+nowhere (suc zero) (suc (suc (suc page))) domain known counted prevails held = omega arith
+nowhere (suc (suc right)) page domain known counted prevails held = omega arith
+
+apart-zero : Apart sample 0
+unfolding Apart
+apart-zero zero right page domain lower below differs known counted prevails held less = absurd (differs refl)
+apart-zero (suc zero) right page domain lower below differs known counted prevails held less =
+    absurd (nowhere right page domain known counted prevails held)
+apart-zero (suc (suc other)) right page domain lower below differs known counted prevails held less = absurd (omega arith)
+
+isolated-zero : Isolated sample 0
+unfolding isSound
+isolated-zero = isolation sample 0 (node-started 2 User refl) (omega arith) apart-zero
+
+-- ---- "It is not met for program 1: program 0 holds domain 0, prevails on READ of page 0, and may revoke domain 3."
+not-apart-one : Apart sample 1 → ⊥
+unfolding Apart prevailing trailingZeros domainBit
+not-apart-one apart =
+    let lacks = apart 0 0 0 0 3 (omega arith) (omega arith) (omega arith) (omega arith) refl refl (omega arith) in
+    let never : _≡_ {A = ℕ} 0 1 = cc in
+    omega arith
+
+-- and two histories alike in program 1's turns differ for it: its read of page 0 is allowed, or is a violation
+abbrev reading : List Command → History
+reading opening = record { opening = opening; turns = record { program = 1; commands = access 0 0 ∷ [] } ∷ [] }
+
+abbrev numbers : List Observation → List ℕ
+numbers = map (λ (o : Observation). o .number)
+
+differ : Isolated sample 1 → _≡_ {A = List ℕ} (0 ∷ 0 ∷ 0 ∷ 0 ∷ []) (0 ∷ 0 ∷ 0 ∷ 9 ∷ [])
+unfolding Isolated observed observedFrom rightsOf callOf checksOf accessChecks commandChecks effectOf entered switched returned after isSound domainBit prevailing trailingZeros
+differ isolated =
+    let revoking = revoke 0 (page 0) (domain 3) ∷ [] in
+    ap numbers (isolated (reading []) (reading revoking) ((omega arith), tt) ((omega arith), tt) refl)
+
+not-isolated-one : Isolated sample 1 → ⊥
+not-isolated-one isolated =
+    let same = differ isolated in
+    let never : _≡_ {A = ℕ} 0 9 = cc in
+    omega arith
+
+-- ---- a program alone in the table and stored in privileged mode: its accesses are allowed, its commands answer 6
+abbrev lone : Machine
+lone = node 1 Privileged
+
+isolated-lone : Isolated lone 0
+unfolding isSound Apart
+isolated-lone =
+    isolation lone 0 (node-started 1 Privileged refl) (omega arith)
+    (λ other right page domain lower below differs known counted prevails held less. absurd (omega arith))
+
+abbrev itself : History
+itself =
+    record {
+      opening = access 1 0 ∷ setMask 0x0007 ∷ [];
+      turns = record { program = 0; commands = grant 0 (page 0) (domain 1) ∷ [] } ∷ [];
+    }
+
+lone-observed : observed lone 0 itself
+    ≡ shown 0 plain plain
+    ∷ shown 6 plain plain
+    ∷ shown 0 plain plain
+    ∷ shown 0 plain plain
+    ∷ shown 0 plain plain
+    ∷ shown 6 plain plain
+    ∷ []
+unfolding observed observedFrom rightsOf callOf checksOf accessChecks commandChecks effectOf entered switched returned after isSound domainBit prevailing trailingZeros
+lone-observed = refl

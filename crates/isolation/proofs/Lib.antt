@@ -1,0 +1,4 @@
+pub mod Settled
+pub mod Alone
+pub mod Isolation
+pub mod Examples

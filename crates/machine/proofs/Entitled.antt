@@ -1,0 +1,68 @@
+-- What an accepted grant or revocation says of the machine: its conditions, none of which was met, one by one.
+use Prim.Native.Nat.{ℕ, _≤_, _<_}
+use mathlib.Core.Path.{_≡_, refl}
+use mathlib.Core.Bool.{Bool, true, false, not, true≢false}
+use mathlib.Core.List.{[], _∷_}
+use borrow.Author.Tests.{ltb-true, leb-true, leb-false, not-false}
+use lib.Dec.{ltb}
+use Rattle.rules.specs.Registers.{localContext}
+use Rattle.rules.specs.Domains.{holds, isDomain, prevailing, isOutside, isNotLower}
+use Rattle.rules.specs.Refusals.{_⇒_, pick}
+use Rattle.rules.specs.declared.domains.Prevailing.{Prevailing}
+use Rattle.rules.specs.declared.domains.Prevailing.the-variants.{Absent, At}
+use Rattle.machine.specs.Machine.{fieldOf}
+use Rattle.machine.specs.Calls.{commandChecks, isRight, inPrivilegedMode, numberOf}
+use Rattle.machine.specs.declared.record.Machine.{Machine}
+use Rattle.machine.specs.declared.record.Page.{Page}
+use Rattle.machine.specs.declared.record.Domain.{Domain}
+use Rattle.machine.specs.declared.record.Call.the-variants.{Grant, Revoke}
+use Rattle.machine.proofs.Answers.{none-met, accepted, change-checks}
+
+-- a grant or a revocation is accepted by virtue of the prevailing domain of the whole field alone: it is there, the local context has
+-- it, and it is of higher level than the domain that is named
+pub record Entitled (m : Machine) (right page s : ℕ) : Type 0 where
+  pub right-known : right ≤ 1
+  pub page-counted : page < m .pages
+  pub domain-known : s < 16
+  pub domain : ℕ
+  pub prevails : prevailing (fieldOf m right page) ≡ At domain
+  pub held : holds (localContext (m .registers)) domain ≡ true
+  pub lower : domain < s
+
+module _ (m : Machine) (granting : Bool) (right : ℕ) (page : Page) (s : Domain) where
+  pub entitled : numberOf m (pick granting (Grant right page s) (Revoke right page s)) ≡ 0 → Entitled m right (page .0) (s .0)
+  unfolding commandChecks
+  entitled h =
+      let field = fieldOf m right (page .0) in
+      let local = localContext (m .registers) in
+      let c₆ = (isNotLower (prevailing field) (s .0) ⇒ 12) ∷ [] in
+      let c₅ = (isOutside (prevailing field) local ⇒ 11) ∷ c₆ in
+      let c₄ = (m .registers .pending ⇒ 8) ∷ c₅ in
+      let c₃ = (inPrivilegedMode m ⇒ 6) ∷ c₄ in
+      let c₂ = (not (isDomain (s .0)) ⇒ 5) ∷ c₃ in
+      let c₁ = (not (ltb (page .0) (m .pages)) ⇒ 4) ∷ c₂ in
+      let all = rw (change-checks m right page s granting) at (accepted m _ h .1) in
+      let p₀ = none-met (not (isRight right)) 2 c₁ all refl in
+      let p₁ = none-met (not (ltb (page .0) (m .pages))) 4 c₂ (p₀ .1) refl in
+      let p₂ = none-met (not (isDomain (s .0))) 5 c₃ (p₁ .1) refl in
+      let p₃ = none-met (inPrivilegedMode m) 6 c₄ (p₂ .1) refl in
+      let p₄ = none-met (m .registers .pending) 8 c₅ (p₃ .1) refl in
+      let p₅ = none-met (isOutside (prevailing field) local) 11 c₆ (p₄ .1) refl in
+      let p₆ = none-met (isNotLower (prevailing field) (s .0)) 12 [] (p₅ .1) refl in
+      by-level (leb-true right 1 (not-false _ (p₀ .0))) (ltb-true (page .0) (m .pages) (not-false _ (p₁ .0)))
+      (ltb-true (s .0) 16 (not-false _ (p₂ .0))) (prevailing field) refl (p₅ .0) (p₆ .0)
+    where
+      by-level : right ≤ 1 → page .0 < m .pages → s .0 < 16 → (v : Prevailing) → prevailing (fieldOf m right (page .0)) ≡ v
+          → isOutside v (localContext (m .registers)) ≡ false → isNotLower v (s .0) ≡ false → Entitled m right (page .0) (s .0)
+      by-level known counted below Absent e inside lower =
+          absurd (true≢false inside)
+      by-level known counted below (At d) e inside lower =
+          record {
+            right-known = known;
+            page-counted = counted;
+            domain-known = below;
+            domain = d;
+            prevails = e;
+            held = not-false _ inside;
+            lower = leb-false (s .0) d lower;
+          }
