@@ -15,6 +15,8 @@ use Rattle.machine.specs.Calls.{callOf}
 use Rattle.machine.specs.declared.record.Machine.{Machine}
 use Rattle.machine.specs.declared.record.Answered.{Answered}
 use Rattle.machine.specs.declared.record.Call.{Call}
+use Rattle.image.specs.Bytes.{Bytes}
+use Rattle.image.specs.Load.{loadOf}
 use Rattle.isolation.specs.Histories.{History, Made, Turn, TurnCalls, callsOf, turnsOf}
 
 -- "A turn of a program in the table": every turn after the opening one is
@@ -92,3 +94,13 @@ Isolated start chosen =
     → InTable start (one .turns) → InTable start (two .turns)
     → ownTurns start chosen one ≡ ownTurns start chosen two
     → observed start chosen one ≡ observed start chosen two
+
+-- "Take any legal image, any program chosen from its table, and any two histories of turns from that image": a legal image is a
+-- string of bytes that loads
+unfoldable pub ThirdDemand : Type 0
+ThirdDemand =
+    (image : List ℕ) (chosen : ℕ)
+    → Bytes image → loadOf image .number ≡ 0
+    → chosen < loadOf image .machine .programs
+    → Apart (loadOf image .machine) chosen
+    → Isolated (loadOf image .machine) chosen

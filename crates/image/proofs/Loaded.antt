@@ -1,0 +1,81 @@
+-- The machine that a load gives: a loaded one is sound and runs program 0, a refused load gives the all-zero one.
+use Prim.Native.Nat.{ℕ, _+_, _*_, _≤_}
+use mathlib.Core.Path.{_≡_, refl, ap, sym}
+use mathlib.Core.Bool.{Bool, true, false}
+use mathlib.Core.List.{List, [], _∷_, List·Memᴰ, List·Memᴰ·head, List·Memᴰ·tail}
+use borrow.Author.Tests.{ne-eqb}
+use native.Mathlib.Omega.{arith}
+use lib.ListN.{length, getD}
+use Rattle.rules.specs.Refusals.{Check, _⇒_, first, pick}
+use Rattle.machine.specs.Machine.{isSound, noMode, noProgram, zero}
+use Rattle.machine.specs.declared.record.Machine.{Machine}
+use Rattle.machine.proofs.Sound.{facts-sound}
+use Rattle.image.specs.Description.{machineOf, liveOf}
+use Rattle.image.specs.Load.{fieldsOf, programsOf, programAt, fieldAt, pageCount, programCount, describe, loadChecks, loadOf}
+use Rattle.image.proofs.Entries.{length-entries, pad-at, pad-past}
+use Rattle.image.proofs.Passed.{Passed, passed}
+
+-- "A loaded machine runs program 0 with its three registers, depth 0, flag clear." "Places beyond a count or the depth
+-- are zero or user after a load."
+pub record Loaded (m : Machine) : Type 0 where
+  pub sound : isSound m ≡ true
+  pub runs-first : m .current ≡ 0
+  pub live : m .registers ≡ liveOf (getD (m .table) 0 noProgram)
+  pub no-depth : m .depth ≡ 0
+  pub no-field : (i : ℕ) → 2 * m .pages ≤ i → getD (m .fields) i 0 ≡ 0
+  pub no-program : (i : ℕ) → m .programs ≤ i → getD (m .table) i noProgram ≡ noProgram
+  pub no-mode : (i : ℕ) → getD (m .saved) i noMode ≡ noMode
+
+module _ (s : List ℕ) (passed : Passed s) where
+  described : Loaded (machineOf (describe s))
+  unfolding machineOf describe
+  described =
+      let programs = programsOf s in
+      let count : length programs ≡ programCount s = length-entries 5 (programAt s) (22 + 4 * pageCount s) (programCount s) in
+      let fields = length-entries 2 (fieldAt s) 22 (2 * pageCount s) in
+      record {
+        sound = facts-sound (machineOf (describe s)) (record {
+          pages-least = passed .pages-least;
+          pages-most = passed .pages-most;
+          exponent-least = passed .exponent-least;
+          exponent-most = passed .exponent-most;
+          depth-most = omega arith;
+          programs-least = omega arith;
+          programs-most = omega arith;
+          memory-most = passed .memory-most;
+          current-below = omega arith;
+          calm = refl;
+        });
+        runs-first = refl;
+        live = ap liveOf (sym (pad-at noProgram 8 programs 0 (omega arith)));
+        no-depth = refl;
+        no-field = λ i past. pad-past 0 256 (fieldsOf s) i (omega arith);
+        no-program = λ i past. pad-past noProgram 8 programs i past;
+        no-mode = λ i. pad-past noMode 8 [] i (omega arith);
+      }
+
+-- a machine that is loaded is one such
+pub loaded : (s : List ℕ) → loadOf s .number ≡ 0 → Loaded (loadOf s .machine)
+unfolding loadOf
+loaded s loads = rw loads (described s (passed s loads))
+
+-- "A refused load gives the machine in which every number is zero, every mode user and the flag clear."
+pub refused-zero : (s : List ℕ) → (loadOf s .number ≡ 0 → ⊥) → loadOf s .machine ≡ zero
+unfolding loadOf
+refused-zero s refused =
+    ap (λ (loads : Bool). pick loads (machineOf (describe s)) zero) (ne-eqb (first (loadChecks s)) 0 refused)
+
+-- the numbers of a list of conditions, and 0
+abbrev numbers : List Check → List ℕ
+numbers [] = 0 ∷ []
+numbers ((met ⇒ number) ∷ rest) = number ∷ numbers rest
+
+listed : (checks : List Check) → List·Memᴰ (first checks) (numbers checks)
+listed [] = List·Memᴰ·head refl
+listed ((true ⇒ number) ∷ rest) = List·Memᴰ·head refl
+listed ((false ⇒ number) ∷ rest) = List·Memᴰ·tail (listed rest)
+
+-- the answers of a load
+pub load-number : (s : List ℕ) → List·Memᴰ (loadOf s .number) (20 ∷ 21 ∷ 22 ∷ 23 ∷ 24 ∷ 25 ∷ 0 ∷ [])
+unfolding loadOf loadChecks
+load-number s = listed (loadChecks s)

@@ -1,0 +1,139 @@
+-- What an image that nothing refuses says of its bytes, as equations and bounds, and back.
+use Prim.Native.Nat.{ℕ, zero, suc, _+_, _*_, _^_, _≤_}
+use mathlib.Core.Path.{_≡_, refl}
+use mathlib.Core.Bool.{Bool, true, false, not, _&&_}
+use mathlib.Core.List.{List, [], _∷_, foldl}
+use borrow.Author.Tests.{leb-true, eqb-true, le-leb, eq-eqb, not-false}
+use native.Mathlib.Omega.{arith}
+use lib.ListN.{length, getD}
+use Rattle.rules.specs.Refusals.{_⇒_, first}
+use Rattle.machine.proofs.Answers.{none-met}
+use Rattle.image.specs.Load.{kindAt, zeroAt, offsetAt, lengthAt, pageCount, pageExponent, programCount, shapeZero, modesOf, every, areModes, lengthTests, kindTests, shapeEntryTests, shapeTests, bodyTests, loadChecks}
+
+-- the facts of an image that nothing refuses
+pub record Passed (s : List ℕ) : Type 0 where
+  pub kind-0 : kindAt s 0 ≡ 1
+  pub zero-0 : zeroAt s 0 ≡ 0
+  pub kind-1 : kindAt s 1 ≡ 2
+  pub zero-1 : zeroAt s 1 ≡ 0
+  pub kind-2 : kindAt s 2 ≡ 3
+  pub zero-2 : zeroAt s 2 ≡ 0
+  pub offset-0 : offsetAt s 0 ≡ 18
+  pub length-0 : lengthAt s 0 ≡ 4
+  pub pages-least : 1 ≤ pageCount s
+  pub pages-most : pageCount s ≤ 128
+  pub exponent-least : 5 ≤ pageExponent s
+  pub exponent-most : pageExponent s ≤ 12
+  pub programs-least : 1 ≤ programCount s
+  pub programs-most : programCount s ≤ 8
+  pub shape-zero : shapeZero s ≡ 0
+  pub memory-most : pageCount s * 2 ^ pageExponent s ≤ 65536
+  pub offset-1 : offsetAt s 1 ≡ 22
+  pub length-1 : lengthAt s 1 ≡ 4 * pageCount s
+  pub offset-2 : offsetAt s 2 ≡ 22 + 4 * pageCount s
+  pub length-2 : lengthAt s 2 ≡ 5 * programCount s
+  pub ends : length s ≡ 22 + 4 * pageCount s + 5 * programCount s
+  pub modes : areModes (modesOf s) ≡ true
+
+pub both : (a b : Bool) → a && b ≡ true → (a ≡ true) × (b ≡ true)
+both true b h = (refl, h)
+both false b h = (h, cc)
+
+-- each of some tests that all hold, and what was joined before them
+joined : (a : Bool) (tests : List Bool) → foldl _&&_ a tests ≡ true → a ≡ true
+joined a [] h = h
+joined a (b ∷ rest) h = both a b (joined (a && b) rest h) .0
+
+each : (a : Bool) (tests : List Bool) → foldl _&&_ a tests ≡ true → (i : ℕ) → getD tests i true ≡ true
+each a [] h i = refl
+each a (b ∷ rest) h zero = both a b (joined (a && b) rest h) .1
+each a (b ∷ rest) h (suc i) = each (a && b) rest h i
+
+module _ (s : List ℕ) where
+  -- the conditions of a list of which none is met
+  none : first (loadChecks s) ≡ 0
+      → (every (kindTests s) ≡ true) × (every (shapeEntryTests s) ≡ true) × (every (shapeTests s) ≡ true)
+      × (every (bodyTests s) ≡ true) × (areModes (modesOf s) ≡ true)
+  unfolding loadChecks
+  none h =
+      let modes = areModes (modesOf s) in
+      let c₅ = (not modes ⇒ 25) ∷ [] in
+      let c₄ = (not (every (bodyTests s)) ⇒ 24) ∷ c₅ in
+      let c₃ = (not (every (shapeTests s)) ⇒ 23) ∷ c₄ in
+      let c₂ = (not (every (shapeEntryTests s)) ⇒ 22) ∷ c₃ in
+      let c₁ = (not (every (kindTests s)) ⇒ 21) ∷ c₂ in
+      let h₀ = none-met (not (every (lengthTests s))) 20 c₁ h refl in
+      let h₁ = none-met (not (every (kindTests s))) 21 c₂ (h₀ .1) refl in
+      let h₂ = none-met (not (every (shapeEntryTests s))) 22 c₃ (h₁ .1) refl in
+      let h₃ = none-met (not (every (shapeTests s))) 23 c₄ (h₂ .1) refl in
+      let h₄ = none-met (not (every (bodyTests s))) 24 c₅ (h₃ .1) refl in
+      let h₅ = none-met (not modes) 25 [] (h₄ .1) refl in (
+        not-false (every (kindTests s)) (h₁ .0),
+        not-false (every (shapeEntryTests s)) (h₂ .0),
+        not-false (every (shapeTests s)) (h₃ .0),
+        not-false (every (bodyTests s)) (h₄ .0),
+        not-false modes (h₅ .0),
+      )
+
+  pub passed : first (loadChecks s) ≡ 0 → Passed s
+  unfolding kindTests shapeEntryTests shapeTests bodyTests
+  passed h =
+      let n = none h in
+      let k = each true (kindTests s) (n .0) in
+      let o = each true (shapeEntryTests s) (n .1) in
+      let r = each true (shapeTests s) (n .2) in
+      let b = each true (bodyTests s) (n .3) in
+      record {
+        kind-0 = eqb-true _ _ (k 0);
+        zero-0 = eqb-true _ _ (k 1);
+        kind-1 = eqb-true _ _ (k 2);
+        zero-1 = eqb-true _ _ (k 3);
+        kind-2 = eqb-true _ _ (k 4);
+        zero-2 = eqb-true _ _ (k 5);
+        offset-0 = eqb-true _ _ (o 0);
+        length-0 = eqb-true _ _ (o 1);
+        pages-least = leb-true _ _ (r 0);
+        pages-most = leb-true _ _ (r 1);
+        exponent-least = leb-true _ _ (r 2);
+        exponent-most = leb-true _ _ (r 3);
+        programs-least = leb-true _ _ (r 4);
+        programs-most = leb-true _ _ (r 5);
+        shape-zero = eqb-true _ _ (r 6);
+        memory-most = leb-true _ _ (r 7);
+        offset-1 = eqb-true _ _ (b 0);
+        length-1 = eqb-true _ _ (b 1);
+        offset-2 = eqb-true _ _ (b 2);
+        length-2 = eqb-true _ _ (b 3);
+        ends = eqb-true _ _ (b 4);
+        modes = n .4;
+      }
+
+  pub passes : Passed s → first (loadChecks s) ≡ 0
+  unfolding loadChecks lengthTests kindTests shapeEntryTests shapeTests bodyTests
+  passes f =
+      rw (
+        le-leb 31 (length s) (omega arith),
+        le-leb (length s) 574 (omega arith),
+        eq-eqb _ _ (f .kind-0),
+        eq-eqb _ _ (f .zero-0),
+        eq-eqb _ _ (f .kind-1),
+        eq-eqb _ _ (f .zero-1),
+        eq-eqb _ _ (f .kind-2),
+        eq-eqb _ _ (f .zero-2),
+        eq-eqb _ _ (f .offset-0),
+        eq-eqb _ _ (f .length-0),
+        le-leb _ _ (f .pages-least),
+        le-leb _ _ (f .pages-most),
+        le-leb _ _ (f .exponent-least),
+        le-leb _ _ (f .exponent-most),
+        le-leb _ _ (f .programs-least),
+        le-leb _ _ (f .programs-most),
+        eq-eqb _ _ (f .shape-zero),
+        le-leb _ _ (f .memory-most),
+        eq-eqb _ _ (f .offset-1),
+        eq-eqb _ _ (f .length-1),
+        eq-eqb _ _ (f .offset-2),
+        eq-eqb _ _ (f .length-2),
+        eq-eqb _ _ (f .ends),
+        f .modes,
+      )

@@ -1,0 +1,105 @@
+-- `image::loader::fields_of` meets its contract. The loop's invariant: the first i fields are in their places.
+use Prim.Native.Nat.{_*_, _-_, _≤_}
+use mathlib.Core.Path.{_≡_, refl, _∙_}
+use borrow.Author.Needs.{needs}
+use borrow.Author.Tests.{ltb-true, ltb-false}
+use native.Mathlib.Omega.{arith}
+use native.Mathlib.Numerals.{add-one}
+use Rattle.image.specs.Bytes.{entries}
+use Rattle.image.specs.Description.{pad}
+use Rattle.image.specs.Load.{fieldAt, pageCount}
+use Rattle.image.proofs.Entries.{pad-next, pad-enough}
+use Rattle.image.proofs.loader.fields_of.Statement.{statement}
+use Rattle.image.proofs.loader.fields_of.Tie as tie
+use Rattle.image.proofs.loader.fields_of.Reads as reads
+use Rattle.image.proofs.loader.fields_of.Lts as lts
+use Rattle.image.proofs.bytes.byte_at.Reads as byte-at-reads
+use Rattle.image.proofs.bytes.field_at.Reads as field-at-reads
+
+abbrev Inv-loop : tie.InvT-loop
+Inv-loop bytes pages fields₀ count i₀ fields i =
+    (i ≤ count) × (i ≤ 256) × (fields ≡ pad 256 0 (entries 2 (fieldAt bytes) 22 i))
+
+abbrev μ-loop : tie.MeasureT-loop
+μ-loop bytes pages fields₀ count i₀ fields i = count - i
+
+byte-at-requires : tie.Need-byte-at-requires Inv-loop μ-loop
+byte-at-requires c κs = search needs
+
+cast-count : tie.Need-cast-count Inv-loop μ-loop
+cast-count c = search needs
+
+mul-count : tie.Need-mul-count Inv-loop μ-loop
+mul-count c = search needs
+
+loop-holds : tie.Need-loop-holds Inv-loop μ-loop
+loop-holds c = (search needs, search needs, refl)
+
+mul-field-at : tie.Need-mul-field-at Inv-loop μ-loop
+mul-field-at c = omega arith
+
+add-field-at : tie.Need-add-field-at Inv-loop μ-loop
+add-field-at c = omega arith
+
+field-at-requires : tie.Need-field-at-requires Inv-loop μ-loop
+field-at-requires c κs = search needs
+
+cast-fields : tie.Need-cast-fields Inv-loop μ-loop
+cast-fields c = search needs
+
+mul-fields : tie.Need-mul-fields Inv-loop μ-loop
+mul-fields c = search needs
+
+array-write-fields : tie.Need-array-write-fields Inv-loop μ-loop
+array-write-fields c = search needs
+
+add-i : tie.Need-add-i Inv-loop μ-loop
+add-i c = omega arith
+
+loop-less : tie.Need-loop-less Inv-loop μ-loop
+loop-less c = omega arith
+
+loop-again : tie.Need-loop-again Inv-loop μ-loop
+loop-again c =
+    let s = c .before .before .before .before .before .before .args .bytes .now in
+    let loop = c .before .before .before .loop in
+    let below = ltb-true (loop .i) 256 (c .before .if1 .taken) in (
+      omega arith,
+      omega arith,
+      rw (loop .inv .2, c .field-at .ensures, add-one) (pad-next 2 (fieldAt s) 0 256 22 (loop .i) below),
+    )
+
+returns : tie.Need-returns Inv-loop μ-loop
+returns c =
+    let s = c .before .before .before .before .before .args .bytes .now in
+    let loop = c .before .before .loop in
+    let full = ltb-false (loop .i) 256 (c .if1 .left) in
+    loop .inv .2 ∙ pad-enough 2 (fieldAt s) 0 256 22 (loop .i) (2 * pageCount s) full (omega arith)
+
+returns-2 : tie.Need-returns-2 Inv-loop μ-loop
+returns-2 c =
+    let s = c .before .before .before .before .args .bytes .now in
+    let all : c .before .loop .i ≡ 2 * pageCount s = omega arith in
+    rw (← all) (c .before .loop .inv .2)
+
+pub fields-of-spec : {M : Type 1} → statement M
+fields-of-spec =
+    tie.close
+    (tie.spec
+    Inv-loop
+    μ-loop
+    byte-at-requires
+    cast-count
+    mul-count
+    loop-holds
+    mul-field-at
+    add-field-at
+    field-at-requires
+    cast-fields
+    mul-fields
+    array-write-fields
+    add-i
+    loop-less
+    loop-again
+    returns
+    returns-2)

@@ -1,0 +1,31 @@
+-- `image::loader::load` meets its contract: the number decides between the machine described and the all-zero one.
+use Rattle.image.specs.Load.{loadOf}
+use borrow.Author.Needs.{needs}
+use Rattle.image.proofs.loader.load.Statement.{statement}
+use Rattle.image.proofs.loader.load.Tie as tie
+use Rattle.image.proofs.loader.load.Reads as reads
+use Rattle.image.proofs.loader.load.Lts as lts
+use Rattle.image.proofs.loader.machine_of.Reads as machine-of-reads
+use Rattle.image.proofs.refusals.load_number.Reads as load-number-reads
+use Rattle.machine.proofs.record.Machine.zero.Reads as zero-reads
+
+load-number-requires : tie.Need-load-number-requires
+load-number-requires c κs = search needs
+
+machine-of-requires : tie.Need-machine-of-requires
+machine-of-requires c κs = search needs
+
+returns : tie.Need-returns
+unfolding loadOf
+returns c = rw (c .machine-of .ensures, ← c .before .before .load-number .ensures, c .before .if1 .taken)
+
+zero-requires : tie.Need-zero-requires
+zero-requires c κs = search needs
+
+returns-2 : tie.Need-returns-2
+unfolding loadOf
+returns-2 c = rw (c .zero .ensures, ← c .before .before .load-number .ensures, c .before .if1 .left)
+
+pub load-spec : {M : Type 1} → statement M
+load-spec =
+    tie.close (tie.spec load-number-requires machine-of-requires returns zero-requires returns-2)

@@ -1,0 +1,103 @@
+-- `image::loader::table_of` meets its contract. The loop's invariant: the first i programs are in their places.
+use Prim.Native.Nat.{_+_, _*_, _-_, _≤_}
+use mathlib.Core.Path.{_≡_, refl, _∙_}
+use borrow.Author.Needs.{needs}
+use borrow.Author.Tests.{ltb-true, ltb-false}
+use native.Mathlib.Omega.{arith}
+use native.Mathlib.Numerals.{add-one}
+use Rattle.machine.specs.Machine.{noProgram}
+use Rattle.image.specs.Bytes.{entries}
+use Rattle.image.specs.Description.{pad}
+use Rattle.image.specs.Load.{pageCount, programAt, programCount}
+use Rattle.image.proofs.Entries.{pad-next, pad-enough}
+use Rattle.image.proofs.loader.table_of.Statement.{statement}
+use Rattle.image.proofs.loader.table_of.Tie as tie
+use Rattle.image.proofs.loader.table_of.Reads as reads
+use Rattle.image.proofs.loader.table_of.Lts as lts
+use Rattle.image.proofs.bytes.byte_at.Reads as byte-at-reads
+use Rattle.image.proofs.loader.program_at.Reads as program-at-reads
+use Rattle.image.proofs.refusals.program_place.Reads as program-place-reads
+
+abbrev Inv-loop : tie.InvT-loop
+Inv-loop bytes pages programs table₀ i₀ table i =
+    (i ≤ programs) × (i ≤ 8) × (table ≡ pad 8 noProgram (entries 5 (programAt bytes) (22 + 4 * pageCount bytes) i))
+
+abbrev μ-loop : tie.MeasureT-loop
+μ-loop bytes pages programs table₀ i₀ table i = programs - i
+
+byte-at-requires : tie.Need-byte-at-requires Inv-loop μ-loop
+byte-at-requires c κs = search needs
+
+byte-at-requires-2 : tie.Need-byte-at-requires-2 Inv-loop μ-loop
+byte-at-requires-2 c κs = search needs
+
+loop-holds : tie.Need-loop-holds Inv-loop μ-loop
+loop-holds c = (search needs, search needs, refl)
+
+program-place-requires : tie.Need-program-place-requires Inv-loop μ-loop
+program-place-requires c κs = search needs
+
+program-at-requires : tie.Need-program-at-requires Inv-loop μ-loop
+program-at-requires c κs = search needs
+
+cast-table : tie.Need-cast-table Inv-loop μ-loop
+cast-table c = search needs
+
+mul-table : tie.Need-mul-table Inv-loop μ-loop
+mul-table c = search needs
+
+array-set-from-table : tie.Need-array-set-from-table Inv-loop μ-loop
+array-set-from-table c = search needs
+
+add-i : tie.Need-add-i Inv-loop μ-loop
+add-i c = omega arith
+
+loop-less : tie.Need-loop-less Inv-loop μ-loop
+loop-less c = omega arith
+
+loop-again : tie.Need-loop-again Inv-loop μ-loop
+loop-again c =
+    let s = c .before .before .before .before .before .before .before .before .args .bytes .now in
+    let loop = c .before .before .before .before .loop in
+    let at = 22 + 4 * pageCount s in
+    let read : c .program-at .result ≡ programAt s (at + 5 * loop .i) =
+    rw (c .program-at .ensures, c .before .program-place .ensures, c .before .before .before .before .before .before .byte-at .ensures) in
+    let below = ltb-true (loop .i) 8 (c .before .before .if1 .taken) in (
+      omega arith,
+      omega arith,
+      rw (loop .inv .2, read, add-one) (pad-next 5 (programAt s) noProgram 8 at (loop .i) below),
+    )
+
+returns : tie.Need-returns Inv-loop μ-loop
+returns c =
+    let s = c .before .before .before .before .before .before .args .bytes .now in
+    let loop = c .before .before .loop in
+    let full = ltb-false (loop .i) 8 (c .if1 .left) in
+    loop .inv .2
+    ∙ pad-enough 5 (programAt s) noProgram 8 (22 + 4 * pageCount s) (loop .i) (programCount s) full (omega arith)
+
+returns-2 : tie.Need-returns-2 Inv-loop μ-loop
+returns-2 c =
+    let s = c .before .before .before .before .before .args .bytes .now in
+    let all : c .before .loop .i ≡ programCount s = omega arith in
+    rw (← all) (c .before .loop .inv .2)
+
+pub table-of-spec : {M : Type 1} → statement M
+table-of-spec =
+    tie.close
+    (tie.spec
+    Inv-loop
+    μ-loop
+    byte-at-requires
+    byte-at-requires-2
+    loop-holds
+    program-place-requires
+    program-at-requires
+    cast-table
+    mul-table
+    array-set-from-table
+    add-i
+    loop-less
+    loop-again
+    returns
+    returns-2)

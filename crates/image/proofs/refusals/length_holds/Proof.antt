@@ -1,0 +1,13 @@
+-- `image::refusals::length_holds` meets its contract: its tests are those of the definition, on what was read.
+use Rattle.image.specs.Load.{lengthTests}
+use Rattle.image.proofs.refusals.length_holds.Statement.{statement}
+use Rattle.image.proofs.refusals.length_holds.Tie as tie
+use Rattle.image.proofs.refusals.length_holds.Reads as reads
+use Rattle.image.proofs.refusals.length_holds.Lts as lts
+
+returns : tie.Need-returns
+unfolding lengthTests
+returns c = cc
+
+pub length-holds-spec : {M : Type 1} → statement M
+length-holds-spec = tie.close (tie.spec returns)

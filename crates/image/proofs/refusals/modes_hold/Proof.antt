@@ -1,0 +1,89 @@
+-- `image::refusals::modes_hold` meets its contract. The loop's invariant: the modes that are left decide.
+use Prim.Native.Nat.{_+_, _*_, _-_, _≤_}
+use mathlib.Core.Path.{_≡_}
+use borrow.Author.Needs.{needs}
+use borrow.Author.Tests.{le-leb, lt-leb}
+use native.Mathlib.Omega.{arith}
+use native.Mathlib.Nat.{add-zero, sub-zero}
+use Rattle.image.specs.Bytes.{entries}
+use Rattle.image.specs.Load.{pageCount, programCount, modeAt, modesOf, areModes}
+use Rattle.image.proofs.Entries.{left-none, left-some}
+use Rattle.image.proofs.refusals.modes_hold.Statement.{statement}
+use Rattle.image.proofs.refusals.modes_hold.Tie as tie
+use Rattle.image.proofs.refusals.modes_hold.Reads as reads
+use Rattle.image.proofs.refusals.modes_hold.Lts as lts
+use Rattle.image.proofs.bytes.byte_at.Reads as byte-at-reads
+use Rattle.image.proofs.bytes.mode_at.Reads as mode-at-reads
+use Rattle.image.proofs.refusals.program_place.Reads as program-place-reads
+
+abbrev Inv-loop : tie.InvT-loop
+Inv-loop bytes pages programs i₀ i =
+    (i ≤ programCount bytes)
+    × (areModes (modesOf bytes) ≡ areModes (entries 5 (modeAt bytes) (22 + 4 * pageCount bytes + 5 * i) (programCount bytes - i)))
+
+abbrev μ-loop : tie.MeasureT-loop
+μ-loop bytes pages programs i₀ i = programs - i
+
+byte-at-requires : tie.Need-byte-at-requires Inv-loop μ-loop
+byte-at-requires c κs = search needs
+
+byte-at-requires-2 : tie.Need-byte-at-requires-2 Inv-loop μ-loop
+byte-at-requires-2 c κs = search needs
+
+loop-holds : tie.Need-loop-holds Inv-loop μ-loop
+loop-holds c = (omega arith, simp (add-zero, sub-zero))
+
+program-place-requires : tie.Need-program-place-requires Inv-loop μ-loop
+program-place-requires c κs = search needs
+
+mode-at-requires : tie.Need-mode-at-requires Inv-loop μ-loop
+mode-at-requires c κs = search needs
+
+returns : tie.Need-returns Inv-loop μ-loop
+returns c =
+    let s = c .before .before .before .before .before .before .before .before .args .bytes .now in
+    let loop = c .before .before .before .before .loop in
+    let at = 22 + 4 * pageCount s in
+    let mode : c .before .mode-at .result ≡ modeAt s (at + 5 * loop .i) =
+    rw (c .before .mode-at .ensures, c .before .before .program-place .ensures, c .before .before .before .before .before .before .byte-at .ensures) in
+    let more = left-some 5 (modeAt s) (programCount s) (loop .i) at (omega arith) in
+    rw (loop .inv .1, more, ← mode, lt-leb _ _ (c .if1 .taken))
+
+add-i : tie.Need-add-i Inv-loop μ-loop
+add-i c = omega arith
+
+loop-less : tie.Need-loop-less Inv-loop μ-loop
+loop-less c = omega arith
+
+loop-again : tie.Need-loop-again Inv-loop μ-loop
+loop-again c =
+    let s = c .before .before .before .before .before .before .before .before .args .bytes .now in
+    let loop = c .before .before .before .before .loop in
+    let at = 22 + 4 * pageCount s in
+    let mode : c .before .mode-at .result ≡ modeAt s (at + 5 * loop .i) =
+    rw (c .before .mode-at .ensures, c .before .before .program-place .ensures, c .before .before .before .before .before .before .byte-at .ensures) in
+    let more = left-some 5 (modeAt s) (programCount s) (loop .i) at (omega arith) in
+    (omega arith, rw (loop .inv .1, more, ← mode, le-leb _ _ (c .if1 .left)))
+
+returns-2 : tie.Need-returns-2 Inv-loop μ-loop
+returns-2 c =
+    let s = c .before .before .before .before .before .args .bytes .now in
+    let loop = c .before .loop in
+    rw (loop .inv .1, left-none 5 (modeAt s) (programCount s) (loop .i) (22 + 4 * pageCount s + 5 * loop .i) (omega arith))
+
+pub modes-hold-spec : {M : Type 1} → statement M
+modes-hold-spec =
+    tie.close
+    (tie.spec
+    Inv-loop
+    μ-loop
+    byte-at-requires
+    byte-at-requires-2
+    loop-holds
+    program-place-requires
+    mode-at-requires
+    returns
+    add-i
+    loop-less
+    loop-again
+    returns-2)

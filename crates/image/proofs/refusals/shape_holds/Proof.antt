@@ -1,0 +1,52 @@
+-- `image::refusals::shape_holds` meets its contract: its tests are those of the definition, on what was read.
+use Rattle.image.specs.Load.{shapeTests}
+use Rattle.image.proofs.Entries.{memory-guarded}
+use borrow.Author.Needs.{needs}
+use Rattle.image.proofs.refusals.shape_holds.Statement.{statement}
+use Rattle.image.proofs.refusals.shape_holds.Tie as tie
+use Rattle.image.proofs.refusals.shape_holds.Reads as reads
+use Rattle.image.proofs.refusals.shape_holds.Lts as lts
+use Rattle.image.proofs.bytes.byte_at.Reads as byte-at-reads
+use Rattle.machine.proofs.record.memory_size.Reads as memory-size-reads
+
+byte-at-requires : tie.Need-byte-at-requires
+byte-at-requires c κs = search needs
+
+byte-at-requires-2 : tie.Need-byte-at-requires-2
+byte-at-requires-2 c κs = search needs
+
+byte-at-requires-3 : tie.Need-byte-at-requires-3
+byte-at-requires-3 c κs = search needs
+
+byte-at-requires-4 : tie.Need-byte-at-requires-4
+byte-at-requires-4 c κs = search needs
+
+cast-memory-size : tie.Need-cast-memory-size
+cast-memory-size c = search needs
+
+memory-size-requires : tie.Need-memory-size-requires
+memory-size-requires c κs = search needs
+
+returns : tie.Need-returns
+unfolding shapeTests
+returns c =
+    rw (
+      c .memory-size .ensures,
+      c .before .before .before .before .byte-at .ensures,
+      c .before .before .before .byte-at2 .ensures,
+      c .before .before .byte-at3 .ensures,
+      c .before .byte-at4 .ensures,
+      memory-guarded,
+    )
+
+pub shape-holds-spec : {M : Type 1} → statement M
+shape-holds-spec =
+    tie.close
+    (tie.spec
+    byte-at-requires
+    byte-at-requires-2
+    byte-at-requires-3
+    byte-at-requires-4
+    cast-memory-size
+    memory-size-requires
+    returns)
