@@ -17,13 +17,17 @@ use Rattle.machine.specs.declared.record.Machine.{Machine}
 use Rattle.machine.specs.declared.record.Page.{Page}
 use Rattle.machine.specs.declared.record.Domain.{Domain}
 use Rattle.machine.specs.declared.record.Call.the-variants.{Access, Enter, Grant, Return, Revoke, SetMask, Switch}
+use Rattle.image.specs.Load.{loadOf}
+use Rattle.image.specs.Sample.{sampleBytes, sampleMachine}
+use Rattle.image.proofs.Sample.{sample-loads}
+use Rattle.machine.specs.declared.record.Answered.{Answered}
 use Rattle.isolation.specs.Histories.{Command, access, grant, revoke, setMask, History}
 use Rattle.isolation.specs.Isolation.{Apart, Isolated, Observation, contextOf, observed, observedFrom, ownTurns, rightsOf}
 use Rattle.isolation.proofs.Isolation.{isolation}
 use Rattle.isolation.proofs.Settled.{Started}
 
 -- the machine that the sample image loads to, with any count of programs and any mode stored for program 0
-abbrev node : ℕ → Mode → Machine
+abbrev pub node : ℕ → Mode → Machine
 node programs mode =
     record {
       pages = 3;
@@ -40,8 +44,13 @@ node programs mode =
           ∷ replicate 6 noProgram;
     }
 
-abbrev sample : Machine
+abbrev pub sample : Machine
 sample = node 2 User
+
+-- the examples start on the machine that the sample's 44 bytes load to
+pub sample-loaded : loadOf sampleBytes .machine ≡ sample
+unfolding sampleMachine
+sample-loaded = ap (λ (a : Answered). a .machine) sample-loads
 
 node-started : (programs : ℕ) (mode : Mode) → isSound (node programs mode) ≡ true → Started (node programs mode)
 node-started programs mode sound =

@@ -4,8 +4,6 @@ use mathlib.Core.Path.{sym}
 use lib.ListN.{List·getD-eq-default}
 use Rattle.image.proofs.bytes.byte_at.Statement.{statement}
 use Rattle.image.proofs.bytes.byte_at.Tie as tie
-use Rattle.image.proofs.bytes.byte_at.Reads as reads
-use Rattle.image.proofs.bytes.byte_at.Lts as lts
 
 shared-slice-read-result : tie.Need-shared-slice-read-result
 shared-slice-read-result c = search needs

@@ -11,10 +11,6 @@ use Rattle.image.specs.Load.{fieldAt, pageCount}
 use Rattle.image.proofs.Entries.{pad-next, pad-enough}
 use Rattle.image.proofs.loader.fields_of.Statement.{statement}
 use Rattle.image.proofs.loader.fields_of.Tie as tie
-use Rattle.image.proofs.loader.fields_of.Reads as reads
-use Rattle.image.proofs.loader.fields_of.Lts as lts
-use Rattle.image.proofs.bytes.byte_at.Reads as byte-at-reads
-use Rattle.image.proofs.bytes.field_at.Reads as field-at-reads
 
 abbrev Inv-loop : tie.InvT-loop
 Inv-loop bytes pages fields₀ count i₀ fields i =

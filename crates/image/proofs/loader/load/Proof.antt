@@ -3,11 +3,6 @@ use Rattle.image.specs.Load.{loadOf}
 use borrow.Author.Needs.{needs}
 use Rattle.image.proofs.loader.load.Statement.{statement}
 use Rattle.image.proofs.loader.load.Tie as tie
-use Rattle.image.proofs.loader.load.Reads as reads
-use Rattle.image.proofs.loader.load.Lts as lts
-use Rattle.image.proofs.loader.machine_of.Reads as machine-of-reads
-use Rattle.image.proofs.refusals.load_number.Reads as load-number-reads
-use Rattle.machine.proofs.record.Machine.zero.Reads as zero-reads
 
 load-number-requires : tie.Need-load-number-requires
 load-number-requires c κs = search needs

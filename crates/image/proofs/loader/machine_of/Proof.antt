@@ -8,11 +8,6 @@ use Rattle.image.proofs.Entries.{length-entries, pad-at}
 use borrow.Author.Needs.{needs}
 use Rattle.image.proofs.loader.machine_of.Statement.{statement}
 use Rattle.image.proofs.loader.machine_of.Tie as tie
-use Rattle.image.proofs.loader.machine_of.Reads as reads
-use Rattle.image.proofs.loader.machine_of.Lts as lts
-use Rattle.image.proofs.bytes.byte_at.Reads as byte-at-reads
-use Rattle.image.proofs.loader.fields_of.Reads as fields-of-reads
-use Rattle.image.proofs.loader.table_of.Reads as table-of-reads
 
 table-of-requires : tie.Need-table-of-requires
 table-of-requires c κs = search needs

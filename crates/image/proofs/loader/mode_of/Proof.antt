@@ -2,8 +2,6 @@
 use borrow.Author.Tests.{eq-eqb, ne-eqb}
 use Rattle.image.proofs.loader.mode_of.Statement.{statement}
 use Rattle.image.proofs.loader.mode_of.Tie as tie
-use Rattle.image.proofs.loader.mode_of.Reads as reads
-use Rattle.image.proofs.loader.mode_of.Lts as lts
 
 returns : tie.Need-returns
 returns c = rw (eq-eqb (c .before .args .byte) 0 (c .if1 .taken))

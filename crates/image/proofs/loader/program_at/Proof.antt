@@ -2,12 +2,6 @@
 use borrow.Author.Needs.{needs}
 use Rattle.image.proofs.loader.program_at.Statement.{statement}
 use Rattle.image.proofs.loader.program_at.Tie as tie
-use Rattle.image.proofs.loader.program_at.Reads as reads
-use Rattle.image.proofs.loader.program_at.Lts as lts
-use Rattle.image.proofs.bytes.context_at.Reads as context-at-reads
-use Rattle.image.proofs.bytes.mask_at.Reads as mask-at-reads
-use Rattle.image.proofs.bytes.mode_at.Reads as mode-at-reads
-use Rattle.image.proofs.loader.mode_of.Reads as mode-of-reads
 
 context-at-requires : tie.Need-context-at-requires
 context-at-requires c κs = search needs

@@ -12,11 +12,6 @@ use Rattle.image.specs.Load.{pageCount, programAt, programCount}
 use Rattle.image.proofs.Entries.{pad-next, pad-enough}
 use Rattle.image.proofs.loader.table_of.Statement.{statement}
 use Rattle.image.proofs.loader.table_of.Tie as tie
-use Rattle.image.proofs.loader.table_of.Reads as reads
-use Rattle.image.proofs.loader.table_of.Lts as lts
-use Rattle.image.proofs.bytes.byte_at.Reads as byte-at-reads
-use Rattle.image.proofs.loader.program_at.Reads as program-at-reads
-use Rattle.image.proofs.refusals.program_place.Reads as program-place-reads
 
 abbrev Inv-loop : tie.InvT-loop
 Inv-loop bytes pages programs table₀ i₀ table i =

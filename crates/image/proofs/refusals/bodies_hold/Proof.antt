@@ -3,12 +3,6 @@ use borrow.Author.Needs.{needs}
 use Rattle.image.specs.Load.{bodyTests}
 use Rattle.image.proofs.refusals.bodies_hold.Statement.{statement}
 use Rattle.image.proofs.refusals.bodies_hold.Tie as tie
-use Rattle.image.proofs.refusals.bodies_hold.Reads as reads
-use Rattle.image.proofs.refusals.bodies_hold.Lts as lts
-use Rattle.image.proofs.bytes.byte_at.Reads as byte-at-reads
-use Rattle.image.proofs.bytes.length_at.Reads as length-at-reads
-use Rattle.image.proofs.bytes.offset_at.Reads as offset-at-reads
-use Rattle.image.proofs.refusals.program_place.Reads as program-place-reads
 
 byte-at-requires : tie.Need-byte-at-requires
 byte-at-requires c κs = search needs

@@ -3,10 +3,6 @@ use borrow.Author.Needs.{needs}
 use Rattle.image.specs.Load.{kindTests}
 use Rattle.image.proofs.refusals.kinds_hold.Statement.{statement}
 use Rattle.image.proofs.refusals.kinds_hold.Tie as tie
-use Rattle.image.proofs.refusals.kinds_hold.Reads as reads
-use Rattle.image.proofs.refusals.kinds_hold.Lts as lts
-use Rattle.image.proofs.bytes.kind_at.Reads as kind-at-reads
-use Rattle.image.proofs.bytes.zero_at.Reads as zero-at-reads
 
 kind-at-requires : tie.Need-kind-at-requires
 kind-at-requires c κs = search needs

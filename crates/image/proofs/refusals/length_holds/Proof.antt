@@ -2,8 +2,6 @@
 use Rattle.image.specs.Load.{lengthTests}
 use Rattle.image.proofs.refusals.length_holds.Statement.{statement}
 use Rattle.image.proofs.refusals.length_holds.Tie as tie
-use Rattle.image.proofs.refusals.length_holds.Reads as reads
-use Rattle.image.proofs.refusals.length_holds.Lts as lts
 
 returns : tie.Need-returns
 unfolding lengthTests

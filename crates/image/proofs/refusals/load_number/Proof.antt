@@ -3,15 +3,6 @@ use Rattle.image.specs.Load.{loadChecks}
 use borrow.Author.Needs.{needs}
 use Rattle.image.proofs.refusals.load_number.Statement.{statement}
 use Rattle.image.proofs.refusals.load_number.Tie as tie
-use Rattle.image.proofs.refusals.load_number.Reads as reads
-use Rattle.image.proofs.refusals.load_number.Lts as lts
-use Rattle.image.proofs.refusals.bodies_hold.Reads as bodies-hold-reads
-use Rattle.image.proofs.refusals.first_refusal.Reads as first-refusal-reads
-use Rattle.image.proofs.refusals.kinds_hold.Reads as kinds-hold-reads
-use Rattle.image.proofs.refusals.length_holds.Reads as length-holds-reads
-use Rattle.image.proofs.refusals.modes_hold.Reads as modes-hold-reads
-use Rattle.image.proofs.refusals.shape_entry_holds.Reads as shape-entry-holds-reads
-use Rattle.image.proofs.refusals.shape_holds.Reads as shape-holds-reads
 
 length-holds-requires : tie.Need-length-holds-requires
 length-holds-requires c κs = search needs

@@ -10,11 +10,6 @@ use Rattle.image.specs.Load.{pageCount, programCount, modeAt, modesOf, a
 use Rattle.image.proofs.Entries.{left-none, left-some}
 use Rattle.image.proofs.refusals.modes_hold.Statement.{statement}
 use Rattle.image.proofs.refusals.modes_hold.Tie as tie
-use Rattle.image.proofs.refusals.modes_hold.Reads as reads
-use Rattle.image.proofs.refusals.modes_hold.Lts as lts
-use Rattle.image.proofs.bytes.byte_at.Reads as byte-at-reads
-use Rattle.image.proofs.bytes.mode_at.Reads as mode-at-reads
-use Rattle.image.proofs.refusals.program_place.Reads as program-place-reads
 
 abbrev Inv-loop : tie.InvT-loop
 Inv-loop bytes pages programs i₀ i =

@@ -3,10 +3,6 @@ use borrow.Author.Needs.{needs}
 use Rattle.image.specs.Load.{shapeEntryTests}
 use Rattle.image.proofs.refusals.shape_entry_holds.Statement.{statement}
 use Rattle.image.proofs.refusals.shape_entry_holds.Tie as tie
-use Rattle.image.proofs.refusals.shape_entry_holds.Reads as reads
-use Rattle.image.proofs.refusals.shape_entry_holds.Lts as lts
-use Rattle.image.proofs.bytes.length_at.Reads as length-at-reads
-use Rattle.image.proofs.bytes.offset_at.Reads as offset-at-reads
 
 offset-at-requires : tie.Need-offset-at-requires
 offset-at-requires c κs = search needs

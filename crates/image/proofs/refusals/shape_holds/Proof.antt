@@ -4,10 +4,6 @@ use Rattle.image.proofs.Entries.{memory-guarded}
 use borrow.Author.Needs.{needs}
 use Rattle.image.proofs.refusals.shape_holds.Statement.{statement}
 use Rattle.image.proofs.refusals.shape_holds.Tie as tie
-use Rattle.image.proofs.refusals.shape_holds.Reads as reads
-use Rattle.image.proofs.refusals.shape_holds.Lts as lts
-use Rattle.image.proofs.bytes.byte_at.Reads as byte-at-reads
-use Rattle.machine.proofs.record.memory_size.Reads as memory-size-reads
 
 byte-at-requires : tie.Need-byte-at-requires
 byte-at-requires c κs = search needs

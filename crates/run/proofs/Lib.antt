@@ -1,0 +1,5 @@
+mod Parts
+mod Steps
+mod Sent
+mod Puts
+mod Printed

@@ -1,0 +1,92 @@
+-- The calls of a string of bytes, one record at a time, and how many they are.
+use Prim.Native.Nat.{ℕ, _+_, _/_, _≤_, _<_}
+use mathlib.Core.Path.{_≡_, refl, sym, _∙_}
+use mathlib.Core.Bool.{Bool, true, false}
+use mathlib.Core.List.{List, [], _∷_}
+use native.Mathlib.Nat.{add-zero}
+use native.Mathlib.Numerals.{add-one}
+use native.Mathlib.Omega.{arith}
+use borrow.Author.Tests.{eqb-true, eqb-false}
+use lib.Dec.{eqb}
+use lib.ListN.{length, getD, set, drop, length-drop, List·getD-eq-default}
+use lib.Seq.{getD-drop, drop-drop, sets}
+use Rattle.image.specs.Bytes.{wordOf}
+use Rattle.machine.specs.declared.record.Machine.{Machine}
+use Rattle.machine.specs.declared.record.Answered.{Answered}
+use Rattle.run.specs.Records.{kinds, callOfKind, callsOf, stepOf}
+use Rattle.run.specs.Run.{answersFrom}
+use Rattle.run.specs.declared.records.Decoded.{Decoded}
+use Rattle.run.specs.declared.records.Decoded.the-variants.{Unknown}
+
+pub above : {n k : ℕ} → n ≤ k → (k ≡ n → ⊥) → n + 1 ≤ k
+above least other = omega arith
+
+-- a kind past the table's last is none of the eleven
+pub unknown-kind : (kind right a b : ℕ) → ((kind ≡ 0 → ⊥) → 12 ≤ kind) → Unknown ≡ callOfKind kind right a b
+unfolding callOfKind
+unknown-kind kind right a b past = split (eqb kind 0) refl
+  where
+    split : (z : Bool) → eqb kind 0 ≡ z → Unknown ≡ callOfKind kind right a b
+    split true e = rw (eqb-true kind 0 e)
+    split false e = sym (List·getD-eq-default (kinds right a b) Unknown (past (eqb-false kind 0 e)))
+
+-- the first record of a string of bytes that has six
+first-record : (l : List ℕ) → 6 ≤ length l
+    → callsOf l
+    ≡ callOfKind (getD l 0 0) (getD l 1 0) (wordOf (getD l 2 0) (getD l 3 0)) (wordOf (getD l 4 0) (getD l 5 0)) ∷ callsOf (drop 6 l)
+unfolding callsOf
+first-record [] h = absurd (omega arith)
+first-record (k ∷ []) h = absurd (omega arith)
+first-record (k ∷ r ∷ []) h = absurd (omega arith)
+first-record (k ∷ r ∷ a ∷ []) h = absurd (omega arith)
+first-record (k ∷ r ∷ a ∷ a′ ∷ []) h = absurd (omega arith)
+first-record (k ∷ r ∷ a ∷ a′ ∷ b ∷ []) h = absurd (omega arith)
+first-record (k ∷ r ∷ a ∷ a′ ∷ b ∷ b′ ∷ rest) h = refl
+
+-- the record at a place, and the calls past it
+pub next-record : (s : List ℕ) (at : ℕ) → at + 6 ≤ length s
+    → callsOf (drop at s)
+    ≡ callOfKind (getD s at 0) (getD s (at + 1) 0) (wordOf (getD s (at + 2) 0) (getD s (at + 3) 0))
+      (wordOf (getD s (at + 4) 0) (getD s (at + 5) 0))
+    ∷ callsOf (drop (at + 6) s)
+next-record s at h =
+    first-record (drop at s) (simp length-drop (omega arith)) ∙ simp (getD-drop, drop-drop, add-zero)
+
+-- fewer than six bytes are no call
+pub no-record : (l : List ℕ) → length l < 6 → callsOf l ≡ []
+unfolding callsOf
+no-record [] h = refl
+no-record (k ∷ []) h = refl
+no-record (k ∷ r ∷ []) h = refl
+no-record (k ∷ r ∷ a ∷ []) h = refl
+no-record (k ∷ r ∷ a ∷ a′ ∷ []) h = refl
+no-record (k ∷ r ∷ a ∷ a′ ∷ b ∷ []) h = refl
+no-record (k ∷ r ∷ a ∷ a′ ∷ b ∷ b′ ∷ rest) h = absurd (omega arith)
+
+-- one call for every six bytes, and one answer for every call
+pub count-calls : (l : List ℕ) → length (callsOf l) ≡ length l / 6
+unfolding callsOf
+count-calls [] = refl
+count-calls (k ∷ []) = refl
+count-calls (k ∷ r ∷ []) = refl
+count-calls (k ∷ r ∷ a ∷ []) = refl
+count-calls (k ∷ r ∷ a ∷ a′ ∷ []) = refl
+count-calls (k ∷ r ∷ a ∷ a′ ∷ b ∷ []) = refl
+count-calls (k ∷ r ∷ a ∷ a′ ∷ b ∷ b′ ∷ rest) = let more = count-calls rest in omega arith
+
+pub count-answers : (m : Machine) (calls : List Decoded) → length (answersFrom m calls) ≡ length calls
+unfolding answersFrom
+count-answers m [] = refl
+count-answers m (call ∷ rest) = let more = count-answers (stepOf m call .machine) rest in omega arith
+
+-- a turn of the loop over the calls: the answer of the record at a place, stored, and the answers of the calls past it, stored behind it,
+-- are the answers of the calls from that place on
+pub turn : (input answers : List ℕ) (m : Machine) (at i : ℕ) {r : Answered} → at + 6 ≤ length input
+    → r
+    ≡ stepOf m
+      (callOfKind (getD input at 0) (getD input (at + 1) 0) (wordOf (getD input (at + 2) 0) (getD input (at + 3) 0))
+      (wordOf (getD input (at + 4) 0) (getD input (at + 5) 0)))
+    → sets (set answers i (r .number)) (i + 1) (answersFrom (r .machine) (callsOf (drop (at + 6) input)))
+    ≡ sets answers i (answersFrom m (callsOf (drop at input)))
+unfolding answersFrom
+turn input answers m at i h e = rw (add-one, next-record input at h, e)

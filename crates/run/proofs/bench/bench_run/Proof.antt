@@ -1,0 +1,82 @@
+-- `run::bench::bench_run` meets its contract: in each of its four ends the count and the buffer are what is sent.
+use mathlib.Core.Path.{_≡_, sym, _∙_}
+use native.Mathlib.Omega.{arith}
+use borrow.Author.Tests.{eq-eqb}
+use lib.ListN.{length, length-set}
+use Rattle.run.specs.Run.{answersOf}
+use Rattle.run.proofs.Sent.{answers-count, all-sends, long-sends, short-sends, stored-all, stored-one}
+use borrow.Author.Needs.{needs}
+use Rattle.run.proofs.bench.bench_run.Statement.{statement}
+use Rattle.run.proofs.bench.bench_run.Tie as tie
+
+returns : tie.Need-returns
+returns c = let a = c .before .before .before .args in long-sends (a .input .now) (a .answers .now) (c .if1 .taken)
+
+counted : (c : tie.After-answer-count) → c .answer-count .result ≡ length (answersOf (c .before .before .before .before .before .before .args .input .now))
+counted c =
+    let a = c .before .before .before .before .before .before .args in
+    c .answer-count .ensures
+    ∙ rw (c .before .load-input .ensures) (sym (answers-count (a .input .now) (a .answers .now) (c .before .before .calls-start .ensures)))
+
+calls-start-requires : tie.Need-calls-start-requires
+calls-start-requires c κs = search needs
+
+load-input-requires : tie.Need-load-input-requires
+load-input-requires c κs = search needs
+
+sub-answer-count : tie.Need-sub-answer-count
+sub-answer-count c = search needs
+
+answer-count-requires : tie.Need-answer-count-requires
+answer-count-requires c κs = search needs
+
+returns-2 : tie.Need-returns-2
+returns-2 c =
+    let a = c .before .before .before .before .before .before .before .args in
+    short-sends (a .input .now) (a .answers .now) (c .before .before .before .calls-start .ensures) (c .before .before .before .before .if1 .left) (counted (c .before)) (c .if2 .taken)
+
+slice-write-answers : tie.Need-slice-write-answers
+slice-write-answers c = omega (arith, counted (c .before))
+
+answer-calls-requires : tie.Need-answer-calls-requires
+answer-calls-requires c κs =
+    let n = rw (eq-eqb (c .before .before .before .before .load-input .result .number) 0 (c .before .if3 .taken)) at (c .before .before .before .answer-count .ensures) in
+    (omega (arith, c .before .before .before .before .before .calls-start .ensures), simp length-set (omega (arith, n)))
+
+same-length : tie.Need-same-length
+same-length c = c .before .before .answer-calls .kept .1 .1 .1 .0 ∙ simp length-set
+
+returns-3 : tie.Need-returns-3
+returns-3 c =
+    let a = c .before .before .before .before .before .before .before .before .before .before .before .before .args in
+    all-sends (a .input .now) (a .answers .now) (c .before .before .before .before .before .before .before .before .calls-start .ensures) (c .before .before .before .before .before .before .before .before .before .if1 .left) (counted (c .before .before .before .before .before .before)) (c .before .before .before .before .before .if2 .left) 
+    (c .before .before .answer-calls .ensures
+    ∙ rw (c .before .before .before .before .before .before .before .load-input .ensures)
+      (stored-all (a .input .now) (a .answers .now) (c .before .before .before .before .before .before .before .before .calls-start .ensures) (rw (← c .before .before .before .before .before .before .before .load-input .ensures) (c .before .before .before .before .if3 .taken))))
+
+same-length-2 : tie.Need-same-length-2
+same-length-2 c = search needs
+
+returns-4 : tie.Need-returns-4
+returns-4 c =
+    let a = c .before .before .before .before .before .before .before .before .args in
+    all-sends (a .input .now) (a .answers .now) (c .before .before .before .before .calls-start .ensures) (c .before .before .before .before .before .if1 .left) (counted (c .before .before)) (c .before .if2 .left) 
+    (rw (c .before .before .before .load-input .ensures)
+      (stored-one (a .input .now) (a .answers .now) (c .before .before .before .before .calls-start .ensures) (rw (← c .before .before .before .load-input .ensures) (c .if3 .left))))
+
+pub bench-run-spec : {M : Type 1} → statement M
+bench-run-spec =
+    tie.close
+    (tie.spec
+    returns
+    calls-start-requires
+    load-input-requires
+    sub-answer-count
+    answer-count-requires
+    returns-2
+    slice-write-answers
+    answer-calls-requires
+    same-length
+    returns-3
+    same-length-2
+    returns-4)

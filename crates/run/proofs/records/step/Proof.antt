@@ -1,0 +1,177 @@
+-- `run::records::step` meets its contract: each arm is the call that the record was decoded to.
+use Rattle.run.specs.Records.{stepOf}
+use borrow.Author.Needs.{needs}
+use Rattle.run.proofs.records.step.Statement.{statement}
+use Rattle.run.proofs.records.step.Tie as tie
+
+enum-known-decoded : tie.Need-enum-known-decoded
+enum-known-decoded c = search needs
+
+enum-told : tie.Need-enum-told
+enum-told c = search needs
+
+returns : tie.Need-returns
+unfolding stepOf
+returns c = rw (c .enum-told .given .1)
+
+enum-known-call : tie.Need-enum-known-call
+enum-known-call c = search needs
+
+access-requires : tie.Need-access-requires
+access-requires c κs = search needs
+
+returns-2 : tie.Need-returns-2
+unfolding stepOf
+returns-2 c =
+    rw (c .before .before .before .before .before .decoded .given .1, c .before .before .call .given .1) (c .access .ensures)
+
+enum-known-call-2 : tie.Need-enum-known-call-2
+enum-known-call-2 c = search needs
+
+grant-requires : tie.Need-grant-requires
+grant-requires c κs = search needs
+
+returns-3 : tie.Need-returns-3
+unfolding stepOf
+returns-3 c =
+    rw (c .before .before .before .before .before .decoded .given .1, c .before .before .call2 .given .1) (c .grant .ensures)
+
+enum-known-call-3 : tie.Need-enum-known-call-3
+enum-known-call-3 c = search needs
+
+revoke-requires : tie.Need-revoke-requires
+revoke-requires c κs = search needs
+
+returns-4 : tie.Need-returns-4
+unfolding stepOf
+returns-4 c =
+    rw (c .before .before .before .before .before .decoded .given .1, c .before .before .call3 .given .1) (c .revoke .ensures)
+
+enum-known-call-4 : tie.Need-enum-known-call-4
+enum-known-call-4 c = search needs
+
+set-mask-requires : tie.Need-set-mask-requires
+set-mask-requires c κs = search needs
+
+returns-5 : tie.Need-returns-5
+unfolding stepOf
+returns-5 c =
+    rw (c .before .before .before .before .before .decoded .given .1, c .before .before .call4 .given .1) (c .set-mask .ensures)
+
+enum-told-2 : tie.Need-enum-told-2
+enum-told-2 c = search needs
+
+enter-requires : tie.Need-enter-requires
+enter-requires c κs = search needs
+
+returns-6 : tie.Need-returns-6
+unfolding stepOf
+returns-6 c =
+    rw (c .before .before .before .before .decoded .given .1, c .before .enum-told2 .given .1) (c .enter .ensures)
+
+enum-told-3 : tie.Need-enum-told-3
+enum-told-3 c = search needs
+
+leave-requires : tie.Need-leave-requires
+leave-requires c κs = search needs
+
+returns-7 : tie.Need-returns-7
+unfolding stepOf
+returns-7 c =
+    rw (c .before .before .before .before .decoded .given .1, c .before .enum-told3 .given .1) (c .leave .ensures)
+
+enum-known-call-5 : tie.Need-enum-known-call-5
+enum-known-call-5 c = search needs
+
+switch-to-requires : tie.Need-switch-to-requires
+switch-to-requires c κs = search needs
+
+returns-8 : tie.Need-returns-8
+unfolding stepOf
+returns-8 c =
+    rw (c .before .before .before .before .before .decoded .given .1, c .before .before .call5 .given .1) (c .switch-to .ensures)
+
+enum-known-call-6 : tie.Need-enum-known-call-6
+enum-known-call-6 c = search needs
+
+store-field-requires : tie.Need-store-field-requires
+store-field-requires c κs = search needs
+
+returns-9 : tie.Need-returns-9
+unfolding stepOf
+returns-9 c =
+    rw (c .before .before .before .before .before .decoded .given .1, c .before .before .call6 .given .1) (c .store-field .ensures)
+
+enum-known-call-7 : tie.Need-enum-known-call-7
+enum-known-call-7 c = search needs
+
+store-context-requires : tie.Need-store-context-requires
+store-context-requires c κs = search needs
+
+returns-10 : tie.Need-returns-10
+unfolding stepOf
+returns-10 c =
+    rw (c .before .before .before .before .before .decoded .given .1, c .before .before .call7 .given .1) (c .store-context .ensures)
+
+enum-known-call-8 : tie.Need-enum-known-call-8
+enum-known-call-8 c = search needs
+
+store-mask-requires : tie.Need-store-mask-requires
+store-mask-requires c κs = search needs
+
+returns-11 : tie.Need-returns-11
+unfolding stepOf
+returns-11 c =
+    rw (c .before .before .before .before .before .decoded .given .1, c .before .before .call8 .given .1) (c .store-mask .ensures)
+
+enum-known-call-9 : tie.Need-enum-known-call-9
+enum-known-call-9 c = search needs
+
+store-mode-requires : tie.Need-store-mode-requires
+store-mode-requires c κs = search needs
+
+returns-12 : tie.Need-returns-12
+unfolding stepOf
+returns-12 c =
+    rw (c .before .before .before .before .before .decoded .given .1, c .before .before .call9 .given .1) (c .store-mode .ensures)
+
+pub step-spec : {M : Type 1} → statement M
+step-spec =
+    tie.close
+    (tie.spec
+    enum-known-decoded
+    enum-told
+    returns
+    enum-known-call
+    access-requires
+    returns-2
+    enum-known-call-2
+    grant-requires
+    returns-3
+    enum-known-call-3
+    revoke-requires
+    returns-4
+    enum-known-call-4
+    set-mask-requires
+    returns-5
+    enum-told-2
+    enter-requires
+    returns-6
+    enum-told-3
+    leave-requires
+    returns-7
+    enum-known-call-5
+    switch-to-requires
+    returns-8
+    enum-known-call-6
+    store-field-requires
+    returns-9
+    enum-known-call-7
+    store-context-requires
+    returns-10
+    enum-known-call-8
+    store-mask-requires
+    returns-11
+    enum-known-call-9
+    store-mode-requires
+    returns-12)

@@ -1,0 +1,4 @@
+pub mod Records
+pub mod Run
+pub mod Text
+pub mod Put

@@ -1,0 +1,95 @@
+// The run for the bench: the answers into a lent buffer (document 01, "The run program").
+use crate::records::decode;
+use crate::records::step;
+use image::bytes::byte_at;
+use image::bytes::word_of;
+use image::load;
+use machine::record::Answered;
+use machine::record::Machine;
+ghost use mathlib.Core.Path.{_≡_};
+ghost use mathlib.Core.List.{_++_};
+ghost use Prim.Native.Nat.{_+_, _-_, _/_, _≤_, min};
+ghost use lib.ListN.{length, drop};
+ghost use lib.Seq.{sets};
+ghost use lib.Dec.{eqb};
+ghost use Rattle.rules.specs.Refusals.{pick};
+ghost use Rattle.image.specs.Bytes.{wordAt};
+ghost use Rattle.run.specs.Records.{callsOf};
+ghost use Rattle.run.specs.Run.{answersFrom, loadedOf, sent};
+
+// Where the calls of an input start: past its image, or at its end.
+pub fn calls_start(input: &[u8]) -> usize
+    ensures { λ r. ⌜ r ≡ min (2 + wordAt (now (input .entry)) 0) (length (now (input .entry))) ⌝ }
+{
+    let end = 2 + word_of(byte_at(input, 0), byte_at(input, 1)) as usize;
+    if end <= input.len() {
+        return end;
+    }
+    input.len()
+}
+
+// The load of an input's image.
+pub fn load_input(input: &[u8], end: usize) -> Answered
+    requires { ⌜ end ≡ min (2 + wordAt (now input) 0) (length (now input)) ⌝ }
+    ensures { λ r. ⌜ r ≡ loadedOf (now (input .entry)) ⌝ }
+{
+    if 2 <= end {
+        return load(&input[2..end]);
+    }
+    load(&input[..0])
+}
+
+// The answers of the calls from a place of the input on, stored from the second place of the buffer on; the caller has seen that
+// there is room for them.
+fn answer_calls(start: Machine, input: &[u8], from: usize, answers: &mut [u8])
+    requires { ⌜ from ≤ length (now input) ⌝ }
+    requires { ⌜ 1 + (length (now input) - from) / 6 ≤ length (now answers) ⌝ }
+    ensures { λ _. ⌜ now (answers .exit) ≡ sets (now (answers .entry)) 1 (answersFrom start (callsOf (drop from (now (input .entry))))) ⌝ }
+{
+    let mut answered = Answered {
+        number: 0,
+        machine: start,
+    };
+    let mut at = from;
+    let mut i: usize = 1;
+    while 6 <= input.len() - at {
+        answered = step(answered.machine, decode(input, at));
+        answers[i] = answered.number;
+        i += 1;
+        at += 6;
+    }
+}
+
+// How many answers there are: the load's, and after an accepted load one for every six bytes that are left.
+fn answer_count(number: u8, left: usize) -> usize
+    requires { ⌜ left ≤ 32768 ⌝ }
+    ensures { λ r. ⌜ r ≡ pick (eqb number 0) (1 + left / 6) 1 ⌝ }
+{
+    if number == 0 {
+        return 1 + left / 6;
+    }
+    1
+}
+
+// The bench's call: the answers of a whole input, and their count.
+#[no_mangle]
+pub extern "C" fn bench_run(input: &[u8], answers: &mut [u8]) -> usize
+    ensures { λ r. ⌜ r ≡ length (sent (now (input .entry)) (length (now (answers .entry)))) ⌝ }
+    ensures { λ _. ⌜ now (answers .exit) ≡ sent (now (input .entry)) (length (now (answers .entry))) ++ drop (length (sent (now (input .entry)) (length (now (answers .entry))))) (now (answers .entry)) ⌝ }
+{
+    if 32768 < input.len() {
+        return 0;
+    }
+    let end = calls_start(input);
+    let loaded = load_input(input, end);
+    let number = loaded.number;
+    let count = answer_count(number, input.len() - end);
+    if answers.len() < count {
+        return 0;
+    }
+    answers[0] = number;
+    if number == 0 {
+        answer_calls(loaded.machine, input, end, answers);
+    }
+    count
+}

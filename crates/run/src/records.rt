@@ -1,0 +1,102 @@
+// The records of calls, decoded and taken as steps of a machine (document 01, "The run program").
+use image::bytes::word_of;
+use machine::record::Answered;
+use machine::record::Call;
+use machine::record::Domain;
+use machine::record::Machine;
+use machine::record::Page;
+ghost use mathlib.Core.Path.{_≡_};
+ghost use Prim.Native.Nat.{_+_, _*_, _≤_};
+ghost use lib.ListN.{length, getD};
+ghost use Rattle.image.specs.Bytes.{wordOf};
+ghost use Rattle.run.specs.Records.{callOfKind, stepOf};
+
+// A record read: one of the eleven calls, or none of them.
+pub enum Decoded {
+    Known(Call),
+    Unknown,
+}
+
+// The address of an access: its high half and its low half.
+fn address_of(a: u16, b: u16) -> u32
+    ensures { λ r. ⌜ r ≡ 65536 * a + b ⌝ }
+{
+    65536 * (a as u32) + b as u32
+}
+
+// The call of a kind, with the parts of its record.
+fn call_of_kind(kind: u8, right: u8, a: u16, b: u16) -> Decoded
+    ensures { λ r. ⌜ r ≡ callOfKind kind right a b ⌝ }
+{
+    match kind {
+        1 => Decoded::Known(Call::Access(right, address_of(a, b))),
+        2 => Decoded::Known(Call::Grant(right, Page(a), Domain(b))),
+        3 => Decoded::Known(Call::Revoke(right, Page(a), Domain(b))),
+        4 => Decoded::Known(Call::SetMask(b)),
+        5 => Decoded::Known(Call::Enter),
+        6 => Decoded::Known(Call::Return),
+        7 => Decoded::Known(Call::Switch(b)),
+        8 => Decoded::Known(Call::StoreField(right, Page(a), b)),
+        9 => Decoded::Known(Call::StoreContext(b)),
+        10 => Decoded::Known(Call::StoreMask(b)),
+        11 => Decoded::Known(Call::StoreMode(b)),
+        _ => Decoded::Unknown,
+    }
+}
+
+// The record at a place of the input; the caller has seen that its six bytes are there.
+pub fn decode(bytes: &[u8], at: usize) -> Decoded
+    requires { ⌜ at + 6 ≤ length (now bytes) ⌝ }
+    ensures { λ r. ⌜ r ≡ callOfKind (getD (now (bytes .entry)) at 0) (getD (now (bytes .entry)) (at + 1) 0) (wordOf (getD (now (bytes .entry)) (at + 2) 0) (getD (now (bytes .entry)) (at + 3) 0)) (wordOf (getD (now (bytes .entry)) (at + 4) 0) (getD (now (bytes .entry)) (at + 5) 0)) ⌝ }
+{
+    call_of_kind(
+        bytes[at],
+        bytes[at + 1],
+        word_of(bytes[at + 2], bytes[at + 3]),
+        word_of(bytes[at + 4], bytes[at + 5]),
+    )
+}
+
+// One step: the call on the machine, or 18 for a record that is none.
+pub fn step(machine: Machine, decoded: Decoded) -> Answered
+    ensures { λ r. ⌜ r ≡ stepOf machine decoded ⌝ }
+{
+    let Decoded::Known(call) = decoded else {
+        return Answered { number: 18, machine };
+    };
+    match call {
+        Call::Access(right, address) => {
+            return machine.access(right, address);
+        }
+        Call::Grant(right, page, domain) => {
+            return machine.grant(right, page, domain);
+        }
+        Call::Revoke(right, page, domain) => {
+            return machine.revoke(right, page, domain);
+        }
+        Call::SetMask(mask) => {
+            return machine.set_mask(mask);
+        }
+        Call::Enter => {
+            return machine.enter();
+        }
+        Call::Return => {
+            return machine.leave();
+        }
+        Call::Switch(program) => {
+            return machine.switch_to(program);
+        }
+        Call::StoreField(right, page, bits) => {
+            return machine.store_field(right, page, bits);
+        }
+        Call::StoreContext(bits) => {
+            return machine.store_context(bits);
+        }
+        Call::StoreMask(bits) => {
+            return machine.store_mask(bits);
+        }
+        Call::StoreMode(mode) => {
+            return machine.store_mode(mode);
+        }
+    }
+}
