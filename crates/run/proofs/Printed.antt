@@ -1,6 +1,6 @@
 -- The text of an input from its parts, and how long they are at the most.
 use Prim.Native.Nat.{ℕ, _+_, _-_, _*_, _/_, _%_, _≤_, min}
-use mathlib.Core.Path.{_≡_, refl, ap, sym, _∙_}
+use mathlib.Core.Path.{_≡_, sym}
 use mathlib.Core.List.{List, [], _∷_, _++_, append-nil}
 use native.Mathlib.Omega.{arith}
 use borrow.Author.Tests.{ne-eqb}
@@ -10,8 +10,8 @@ use Rattle.rules.specs.Refusals.{pick}
 use Rattle.image.specs.Bytes.{wordAt}
 use Rattle.machine.specs.declared.record.Machine.{Machine}
 use Rattle.run.specs.Records.{callsOf}
-use Rattle.run.specs.Run.{answersFrom, callAnswers, callBytes, loadedOf}
-use Rattle.run.specs.Text.{letters, cutOf, lineOf, linesFrom, loadLine, runText}
+use Rattle.run.specs.Run.{answersFrom, callAnswers, loadedOf}
+use Rattle.run.specs.Text.{letters, cutOf, linesFrom, loadLine, runText}
 use Rattle.run.proofs.Parts.{calls-part}
 use Rattle.run.proofs.Puts.{decimal-most, line-most}
 use Rattle.run.proofs.Steps.{count-calls, count-answers}

@@ -33,7 +33,7 @@ pub put-put : {l m n s t : List ℕ} {at p q : ℕ} → Put l at s m p → Put m
 put-put {l} {m} {n} {s} {t} {at} {p} {q} a b =
     record {
       stored = b .stored ∙ put-rest t a;
-      next = omega (arith, a .next, b .next, length-append s t)
+      next = omega (arith, a .next, b .next, length-append s t);
     }
 
 pub put-long : {l m s : List ℕ} {at p : ℕ} → Put l at s m p → length m ≡ length l
@@ -65,8 +65,8 @@ line-most i answer = simp length-append (omega (arith, decimal-most i, decimal-m
 pub turn-line : (input : List ℕ) (m : Machine) (at i : ℕ) {out out′ : List ℕ} {to to′ : ℕ} {r : Answered} → at + 6 ≤ length input
     → r
     ≡ stepOf m
-      (callOfKind (getD input at 0) (getD input (at + 1) 0) (wordOf (getD input (at + 2) 0) (getD input (at + 3) 0))
-      (wordOf (getD input (at + 4) 0) (getD input (at + 5) 0)))
+    (callOfKind (getD input at 0) (getD input (at + 1) 0) (wordOf (getD input (at + 2) 0) (getD input (at + 3) 0))
+    (wordOf (getD input (at + 4) 0) (getD input (at + 5) 0)))
     → Put out to (lineOf i (r .number)) out′ to′
     → (sets out′ to′ (linesFrom (i + 1) (answersFrom (r .machine) (callsOf (drop (at + 6) input))))
     ≡ sets out to (linesFrom i (answersFrom m (callsOf (drop at input)))))

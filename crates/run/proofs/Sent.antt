@@ -56,7 +56,7 @@ module _ (input entry : List ℕ) {end : ℕ} (ends : end ≡ min (2 + wordAt in
   unfolding sent
   all-sends {count} {exit} within counted room stored =
       let all : sent input (length entry) ≡ answersOf input =
-            rw (le-ltb 32768 (length input) within, ← counted, le-leb count (length entry) room) in
+      rw (le-ltb 32768 (length input) within, ← counted, le-leb count (length entry) room) in
       rw all (counted, stored ∙ sets-eq (answersOf input) entry 0 (omega arith) ∙ simp zero-add)
 
   -- what the code stores, as the answers of the input

@@ -47,7 +47,7 @@ first-record (k ∷ r ∷ a ∷ a′ ∷ b ∷ b′ ∷ rest) h = refl
 pub next-record : (s : List ℕ) (at : ℕ) → at + 6 ≤ length s
     → callsOf (drop at s)
     ≡ callOfKind (getD s at 0) (getD s (at + 1) 0) (wordOf (getD s (at + 2) 0) (getD s (at + 3) 0))
-      (wordOf (getD s (at + 4) 0) (getD s (at + 5) 0))
+    (wordOf (getD s (at + 4) 0) (getD s (at + 5) 0))
     ∷ callsOf (drop (at + 6) s)
 next-record s at h =
     first-record (drop at s) (simp length-drop (omega arith)) ∙ simp (getD-drop, drop-drop, add-zero)
@@ -84,8 +84,8 @@ count-answers m (call ∷ rest) = let more = count-answers (stepOf m call .machi
 pub turn : (input answers : List ℕ) (m : Machine) (at i : ℕ) {r : Answered} → at + 6 ≤ length input
     → r
     ≡ stepOf m
-      (callOfKind (getD input at 0) (getD input (at + 1) 0) (wordOf (getD input (at + 2) 0) (getD input (at + 3) 0))
-      (wordOf (getD input (at + 4) 0) (getD input (at + 5) 0)))
+    (callOfKind (getD input at 0) (getD input (at + 1) 0) (wordOf (getD input (at + 2) 0) (getD input (at + 3) 0))
+    (wordOf (getD input (at + 4) 0) (getD input (at + 5) 0)))
     → sets (set answers i (r .number)) (i + 1) (answersFrom (r .machine) (callsOf (drop (at + 6) input)))
     ≡ sets answers i (answersFrom m (callsOf (drop at input)))
 unfolding answersFrom

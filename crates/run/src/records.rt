@@ -62,7 +62,10 @@ pub fn step(machine: Machine, decoded: Decoded) -> Answered
     ensures { λ r. ⌜ r ≡ stepOf machine decoded ⌝ }
 {
     let Decoded::Known(call) = decoded else {
-        return Answered { number: 18, machine };
+        return Answered {
+            number: 18,
+            machine,
+        };
     };
     match call {
         Call::Access(right, address) => {

@@ -51,10 +51,14 @@ loop-less c = omega arith
 loop-again : tie.Need-loop-again Inv-loop μ-loop
 loop-again c =
     let l = c .before .before .before .loop in
-    let input = c .before .before .before .before .before .before .args .input .now in
-    (omega arith, omega arith, length-set (l .answers) (l .i) (c .step .result .number) ∙ l .inv .2, simp length-set (omega arith),
-    turn input (l .answers) (l .answered .machine) (l .at) (l .i) (omega arith) (rw (← c .before .decode .ensures) (c .step .ensures))
-    ∙ l .inv .4)
+    let input = c .before .before .before .before .before .before .args .input .now in (
+      omega arith,
+      omega arith,
+      length-set (l .answers) (l .i) (c .step .result .number) ∙ l .inv .2,
+      simp length-set (omega arith),
+      turn input (l .answers) (l .answered .machine) (l .at) (l .i) (omega arith) (rw (← c .before .decode .ensures) (c .step .ensures))
+          ∙ l .inv .4,
+    )
 
 same-length : tie.Need-same-length Inv-loop μ-loop
 same-length c = c .before .loop .inv .2

@@ -49,10 +49,10 @@ same-length c = c .before .before .answer-calls .kept .1 .1 .1 .0 ∙ simp lengt
 returns-3 : tie.Need-returns-3
 returns-3 c =
     let a = c .before .before .before .before .before .before .before .before .before .before .before .before .args in
-    all-sends (a .input .now) (a .answers .now) (c .before .before .before .before .before .before .before .before .calls-start .ensures) (c .before .before .before .before .before .before .before .before .before .if1 .left) (counted (c .before .before .before .before .before .before)) (c .before .before .before .before .before .if2 .left) 
+    all-sends (a .input .now) (a .answers .now) (c .before .before .before .before .before .before .before .before .calls-start .ensures) (c .before .before .before .before .before .before .before .before .before .if1 .left) (counted (c .before .before .before .before .before .before)) (c .before .before .before .before .before .if2 .left)
     (c .before .before .answer-calls .ensures
     ∙ rw (c .before .before .before .before .before .before .before .load-input .ensures)
-      (stored-all (a .input .now) (a .answers .now) (c .before .before .before .before .before .before .before .before .calls-start .ensures) (rw (← c .before .before .before .before .before .before .before .load-input .ensures) (c .before .before .before .before .if3 .taken))))
+    (stored-all (a .input .now) (a .answers .now) (c .before .before .before .before .before .before .before .before .calls-start .ensures) (rw (← c .before .before .before .before .before .before .before .load-input .ensures) (c .before .before .before .before .if3 .taken))))
 
 same-length-2 : tie.Need-same-length-2
 same-length-2 c = search needs
@@ -60,9 +60,9 @@ same-length-2 c = search needs
 returns-4 : tie.Need-returns-4
 returns-4 c =
     let a = c .before .before .before .before .before .before .before .before .args in
-    all-sends (a .input .now) (a .answers .now) (c .before .before .before .before .calls-start .ensures) (c .before .before .before .before .before .if1 .left) (counted (c .before .before)) (c .before .if2 .left) 
+    all-sends (a .input .now) (a .answers .now) (c .before .before .before .before .calls-start .ensures) (c .before .before .before .before .before .if1 .left) (counted (c .before .before)) (c .before .if2 .left)
     (rw (c .before .before .before .load-input .ensures)
-      (stored-one (a .input .now) (a .answers .now) (c .before .before .before .before .calls-start .ensures) (rw (← c .before .before .before .load-input .ensures) (c .if3 .left))))
+    (stored-one (a .input .now) (a .answers .now) (c .before .before .before .before .calls-start .ensures) (rw (← c .before .before .before .load-input .ensures) (c .if3 .left))))
 
 pub bench-run-spec : {M : Type 1} → statement M
 bench-run-spec =

@@ -60,10 +60,10 @@ returns-12 c =
     let r = c .match .rest in
     unknown-kind (a .kind) (a .right) (a .a) (a .b)
     (λ none.
-      above (above (above (above (above (above (above (above (above (above (above (above {n = 0} zero-le none)
-      (r .0 .0 .0 .0 .0 .0 .0 .0 .0 .0 .1)) (r .0 .0 .0 .0 .0 .0 .0 .0 .0 .1)) (r .0 .0 .0 .0 .0 .0 .0 .0 .1))
-      (r .0 .0 .0 .0 .0 .0 .0 .1)) (r .0 .0 .0 .0 .0 .0 .1)) (r .0 .0 .0 .0 .0 .1)) (r .0 .0 .0 .0 .1))
-      (r .0 .0 .0 .1)) (r .0 .0 .1)) (r .0 .1)) (r .1))
+    above (above (above (above (above (above (above (above (above (above (above (above {n = 0} zero-le none)
+    (r .0 .0 .0 .0 .0 .0 .0 .0 .0 .0 .1)) (r .0 .0 .0 .0 .0 .0 .0 .0 .0 .1)) (r .0 .0 .0 .0 .0 .0 .0 .0 .1))
+    (r .0 .0 .0 .0 .0 .0 .0 .1)) (r .0 .0 .0 .0 .0 .0 .1)) (r .0 .0 .0 .0 .0 .1)) (r .0 .0 .0 .0 .1))
+    (r .0 .0 .0 .1)) (r .0 .0 .1)) (r .0 .1)) (r .1))
 
 pub call-of-kind-spec : {M : Type 1} → statement M
 call-of-kind-spec =

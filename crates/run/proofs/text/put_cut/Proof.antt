@@ -5,35 +5,25 @@ use Rattle.run.proofs.Puts.{put-none, put-put}
 use borrow.Author.Needs.{needs}
 use Rattle.run.proofs.text.put_cut.Statement.{statement}
 use Rattle.run.proofs.text.put_cut.Tie as tie
-use Rattle.run.proofs.text.put_cut.Reads as reads
-use Rattle.run.proofs.text.put_cut.Lts as lts
-use Rattle.run.proofs.text.put_byte.Reads as put-byte-reads
 
--- src/text.rt:96:9
 returns : tie.Need-returns
 returns c = rw (eq-eqb (c .before .before .args .left % 6) 0 (c .if1 .taken)) (put-none _ _)
 
--- src/text.rt:98:9
 put-byte-requires : tie.Need-put-byte-requires
 put-byte-requires c κs = search needs
 
--- src/text.rt:99:9
 put-byte-requires-2 : tie.Need-put-byte-requires-2
 put-byte-requires-2 c κs = search needs
 
--- src/text.rt:100:9
 put-byte-requires-3 : tie.Need-put-byte-requires-3
 put-byte-requires-3 c κs = search needs
 
--- src/text.rt:101:5
 put-byte-requires-4 : tie.Need-put-byte-requires-4
 put-byte-requires-4 c κs = search needs
 
--- src/text.rt:91:1
 same-length : tie.Need-same-length
 same-length c = search needs
 
--- src/text.rt:91:1
 returns-2 : tie.Need-returns-2
 returns-2 c =
     rw (ne-eqb (c .before .before .before .before .before .before .before .before .before .before .before .before .before .before .before .before .before .before .args .left % 6) 0 (c .before .before .before .before .before .before .before .before .before .before .before .before .before .before .before .before .if1 .left))

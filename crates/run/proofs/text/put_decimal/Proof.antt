@@ -5,44 +5,31 @@ use Rattle.run.specs.Text.{decimalOf}
 use borrow.Author.Needs.{needs}
 use Rattle.run.proofs.text.put_decimal.Statement.{statement}
 use Rattle.run.proofs.text.put_decimal.Tie as tie
-use Rattle.run.proofs.text.put_decimal.Reads as reads
-use Rattle.run.proofs.text.put_decimal.Lts as lts
-use Rattle.run.proofs.text.put_byte.Reads as put-byte-reads
-use Rattle.run.proofs.text.put_leading.Reads as put-leading-reads
 
--- src/text.rt:46:9
 put-leading-requires : tie.Need-put-leading-requires
 put-leading-requires c κs = search needs
 
--- src/text.rt:47:9
 put-leading-requires-2 : tie.Need-put-leading-requires-2
 put-leading-requires-2 c κs = omega (arith, (room 1 4 (c .before .before .before .put-leading .ensures) (leading-most (c .before .before .before .before .before .before .args .n) 10000) (c .before .before .before .before .before .before .pre)))
 
--- src/text.rt:48:9
 put-leading-requires-3 : tie.Need-put-leading-requires-3
 put-leading-requires-3 c κs = omega (arith, (room 1 3 (c .before .before .before .put-leading2 .ensures) (leading-most (c .before .before .before .before .before .before .before .before .before .before .args .n) 1000) (room 1 4 (c .before .before .before .before .before .before .before .put-leading .ensures) (leading-most (c .before .before .before .before .before .before .before .before .before .before .args .n) 10000) (c .before .before .before .before .before .before .before .before .before .before .pre))))
 
--- src/text.rt:49:9
 put-leading-requires-4 : tie.Need-put-leading-requires-4
 put-leading-requires-4 c κs = omega (arith, (room 1 2 (c .before .before .before .put-leading3 .ensures) (leading-most (c .before .before .before .before .before .before .before .before .before .before .before .before .before .before .args .n) 100) (room 1 3 (c .before .before .before .before .before .before .before .put-leading2 .ensures) (leading-most (c .before .before .before .before .before .before .before .before .before .before .before .before .before .before .args .n) 1000) (room 1 4 (c .before .before .before .before .before .before .before .before .before .before .before .put-leading .ensures) (leading-most (c .before .before .before .before .before .before .before .before .before .before .before .before .before .before .args .n) 10000) (c .before .before .before .before .before .before .before .before .before .before .before .before .before .before .pre)))))
 
--- src/text.rt:50:27
 cast-put-byte : tie.Need-cast-put-byte
 cast-put-byte c = search needs
 
--- src/text.rt:50:22
 add-put-byte : tie.Need-add-put-byte
 add-put-byte c = search needs
 
--- src/text.rt:50:5
 put-byte-requires : tie.Need-put-byte-requires
 put-byte-requires c κs = omega (arith, (room 1 1 (c .before .before .before .put-leading4 .ensures) (leading-most (c .before .before .before .before .before .before .before .before .before .before .before .before .before .before .before .before .before .before .args .n) 10) (room 1 2 (c .before .before .before .before .before .before .before .put-leading3 .ensures) (leading-most (c .before .before .before .before .before .before .before .before .before .before .before .before .before .before .before .before .before .before .args .n) 100) (room 1 3 (c .before .before .before .before .before .before .before .before .before .before .before .put-leading2 .ensures) (leading-most (c .before .before .before .before .before .before .before .before .before .before .before .before .before .before .before .before .before .before .args .n) 1000) (room 1 4 (c .before .before .before .before .before .before .before .before .before .before .before .before .before .before .before .put-leading .ensures) (leading-most (c .before .before .before .before .before .before .before .before .before .before .before .before .before .before .before .before .before .before .args .n) 10000) (c .before .before .before .before .before .before .before .before .before .before .before .before .before .before .before .before .before .before .pre))))))
 
--- src/text.rt:42:1
 same-length : tie.Need-same-length
 same-length c = search needs
 
--- src/text.rt:42:1
 returns : tie.Need-returns
 unfolding decimalOf
 returns c = put-put (put-put (put-put (put-put (c .before .before .before .before .before .before .before .before .before .before .before .before .before .before .before .before .before .before .put-leading .ensures) (c .before .before .before .before .before .before .before .before .before .before .before .before .before .before .put-leading2 .ensures)) (c .before .before .before .before .before .before .before .before .before .before .put-leading3 .ensures)) (c .before .before .before .before .before .before .put-leading4 .ensures)) (c .before .before .put-byte .ensures)

@@ -4,37 +4,27 @@ use Rattle.run.proofs.Puts.{put-none}
 use borrow.Author.Needs.{needs}
 use Rattle.run.proofs.text.put_leading.Statement.{statement}
 use Rattle.run.proofs.text.put_leading.Tie as tie
-use Rattle.run.proofs.text.put_leading.Reads as reads
-use Rattle.run.proofs.text.put_leading.Lts as lts
-use Rattle.run.proofs.text.put_byte.Reads as put-byte-reads
 
--- src/text.rt:34:40
 div-put-byte : tie.Need-div-put-byte
 div-put-byte c = search needs
 
--- src/text.rt:34:39
 cast-put-byte : tie.Need-cast-put-byte
 cast-put-byte c = search needs
 
--- src/text.rt:34:34
 add-put-byte : tie.Need-add-put-byte
 add-put-byte c = search needs
 
--- src/text.rt:34:9
 put-byte-requires : tie.Need-put-byte-requires
 put-byte-requires c κs = search needs
 
--- src/text.rt:34:9
 same-length : tie.Need-same-length
 same-length c = search needs
 
--- src/text.rt:34:9
 returns : tie.Need-returns
 returns c =
     let a = c .before .before .before .before .before .before .args in
     rw (le-leb (a .power) (a .n) (c .before .before .before .before .if1 .taken)) (c .before .before .put-byte .ensures)
 
--- src/text.rt:28:1
 returns-2 : tie.Need-returns-2
 returns-2 c = rw (lt-leb (c .before .before .args .power) (c .before .before .args .n) (c .if1 .left)) (put-none _ _)
 

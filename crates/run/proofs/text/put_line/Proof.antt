@@ -6,32 +6,22 @@ use Rattle.run.specs.Text.{lineOf}
 use borrow.Author.Needs.{needs}
 use Rattle.run.proofs.text.put_line.Statement.{statement}
 use Rattle.run.proofs.text.put_line.Tie as tie
-use Rattle.run.proofs.text.put_line.Reads as reads
-use Rattle.run.proofs.text.put_line.Lts as lts
-use Rattle.run.proofs.text.put_byte.Reads as put-byte-reads
-use Rattle.run.proofs.text.put_decimal.Reads as put-decimal-reads
 
--- src/text.rt:58:9
 put-decimal-requires : tie.Need-put-decimal-requires
 put-decimal-requires c κs = search needs
 
--- src/text.rt:59:9
 put-byte-requires : tie.Need-put-byte-requires
 put-byte-requires c κs = omega (arith, (room 5 7 (c .before .before .before .put-decimal .ensures) (decimal-most (c .before .before .before .before .before .before .args .i)) (c .before .before .before .before .before .before .pre)))
 
--- src/text.rt:60:9
 put-decimal-requires-2 : tie.Need-put-decimal-requires-2
 put-decimal-requires-2 c κs = omega (arith, (room 1 6 (c .before .before .before .put-byte .ensures) (le-refl 1) (room 5 7 (c .before .before .before .before .before .before .before .put-decimal .ensures) (decimal-most (c .before .before .before .before .before .before .before .before .before .before .args .i)) (c .before .before .before .before .before .before .before .before .before .before .pre))))
 
--- src/text.rt:61:5
 put-byte-requires-2 : tie.Need-put-byte-requires-2
 put-byte-requires-2 c κs = omega (arith, (room 5 1 (c .before .before .before .put-decimal2 .ensures) (decimal-most (c .before .before .before .before .before .before .before .before .before .before .before .before .before .before .args .answer)) (room 1 6 (c .before .before .before .before .before .before .before .put-byte .ensures) (le-refl 1) (room 5 7 (c .before .before .before .before .before .before .before .before .before .before .before .put-decimal .ensures) (decimal-most (c .before .before .before .before .before .before .before .before .before .before .before .before .before .before .args .i)) (c .before .before .before .before .before .before .before .before .before .before .before .before .before .before .pre)))))
 
--- src/text.rt:54:1
 same-length : tie.Need-same-length
 same-length c = search needs
 
--- src/text.rt:54:1
 returns : tie.Need-returns
 unfolding lineOf
 returns c = put-put (put-put (put-put (c .before .before .before .before .before .before .before .before .before .before .before .before .before .before .put-decimal .ensures) (c .before .before .before .before .before .before .before .before .before .before .put-byte .ensures)) (c .before .before .before .before .before .before .put-decimal2 .ensures)) (c .before .before .put-byte2 .ensures)

@@ -1,6 +1,6 @@
 -- `run::text::put_lines` meets its contract. The loop's invariant: the lines of the calls that are left, put from here on, give the text
 -- that is promised, and there is room for them. The measure is what is left of the input.
-use Prim.Native.Nat.{ℕ, _+_, _*_, _-_, _/_, _≤_}
+use Prim.Native.Nat.{_+_, _*_, _-_, _/_, _≤_}
 use mathlib.Core.Path.{_≡_, refl, ap, _∙_}
 use mathlib.Core.List.{[]}
 use native.Mathlib.Omega.{arith}
@@ -13,11 +13,6 @@ use Rattle.run.proofs.Steps.{no-record}
 use Rattle.run.proofs.Puts.{line-most, put-long, turn-line}
 use Rattle.run.proofs.text.put_lines.Statement.{statement}
 use Rattle.run.proofs.text.put_lines.Tie as tie
-use Rattle.run.proofs.text.put_lines.Reads as reads
-use Rattle.run.proofs.text.put_lines.Lts as lts
-use Rattle.run.proofs.records.decode.Reads as decode-reads
-use Rattle.run.proofs.records.step.Reads as step-reads
-use Rattle.run.proofs.text.put_line.Reads as put-line-reads
 
 abbrev Inv-loop : tie.InvT-loop
 Inv-loop input from out₀ at answered₀ next₀ to₀ i₀ out answered next to i =
@@ -65,10 +60,15 @@ loop-again c =
     let line = c .before .before .put-line .ensures in
     let most = line-most (l .i) (c .before .before .before .before .step .result .number) in
     let turn =
-          turn-line input (l .answered .machine) (l .next) (l .i) (omega (arith, test, l .inv .0))
-          (c .before .before .before .before .step .ensures ∙ ap (stepOf (l .answered .machine)) (c .before .before .before .before .before .decode .ensures)) line in
-    (omega (arith, test, l .inv .0), omega (arith, l .inv .1), put-long line ∙ l .inv .2,
-    omega (arith, test, l .inv .0, l .inv .3, line .next, put-long line, most), turn .0 ∙ l .inv .4, turn .1 ∙ l .inv .5)
+    turn-line input (l .answered .machine) (l .next) (l .i) (omega (arith, test, l .inv .0))
+    (c .before .before .before .before .step .ensures ∙ ap (stepOf (l .answered .machine)) (c .before .before .before .before .before .decode .ensures)) line in (
+      omega (arith, test, l .inv .0),
+      omega (arith, l .inv .1),
+      put-long line ∙ l .inv .2,
+      omega (arith, test, l .inv .0, l .inv .3, line .next, put-long line, most),
+      turn .0 ∙ l .inv .4,
+      turn .1 ∙ l .inv .5,
+    )
 
 same-length : tie.Need-same-length Inv-loop μ-loop
 same-length c = c .before .loop .inv .2

@@ -5,35 +5,25 @@ use Rattle.run.proofs.Puts.{put-put, room}
 use borrow.Author.Needs.{needs}
 use Rattle.run.proofs.text.put_long.Statement.{statement}
 use Rattle.run.proofs.text.put_long.Tie as tie
-use Rattle.run.proofs.text.put_long.Reads as reads
-use Rattle.run.proofs.text.put_long.Lts as lts
-use Rattle.run.proofs.text.put_byte.Reads as put-byte-reads
 
--- src/text.rt:83:9
 put-byte-requires : tie.Need-put-byte-requires
 put-byte-requires c κs = search needs
 
--- src/text.rt:84:9
 put-byte-requires-2 : tie.Need-put-byte-requires-2
 put-byte-requires-2 c κs = omega (arith, (room 1 4 (c .before .before .before .put-byte .ensures) (le-refl 1) (c .before .before .before .before .before .before .pre)))
 
--- src/text.rt:85:9
 put-byte-requires-3 : tie.Need-put-byte-requires-3
 put-byte-requires-3 c κs = omega (arith, (room 1 3 (c .before .before .before .put-byte2 .ensures) (le-refl 1) (room 1 4 (c .before .before .before .before .before .before .before .put-byte .ensures) (le-refl 1) (c .before .before .before .before .before .before .before .before .before .before .pre))))
 
--- src/text.rt:86:9
 put-byte-requires-4 : tie.Need-put-byte-requires-4
 put-byte-requires-4 c κs = omega (arith, (room 1 2 (c .before .before .before .put-byte3 .ensures) (le-refl 1) (room 1 3 (c .before .before .before .before .before .before .before .put-byte2 .ensures) (le-refl 1) (room 1 4 (c .before .before .before .before .before .before .before .before .before .before .before .put-byte .ensures) (le-refl 1) (c .before .before .before .before .before .before .before .before .before .before .before .before .before .before .pre)))))
 
--- src/text.rt:87:5
 put-byte-requires-5 : tie.Need-put-byte-requires-5
 put-byte-requires-5 c κs = omega (arith, (room 1 1 (c .before .before .before .put-byte4 .ensures) (le-refl 1) (room 1 2 (c .before .before .before .before .before .before .before .put-byte3 .ensures) (le-refl 1) (room 1 3 (c .before .before .before .before .before .before .before .before .before .before .before .put-byte2 .ensures) (le-refl 1) (room 1 4 (c .before .before .before .before .before .before .before .before .before .before .before .before .before .before .before .put-byte .ensures) (le-refl 1) (c .before .before .before .before .before .before .before .before .before .before .before .before .before .before .before .before .before .before .pre))))))
 
--- src/text.rt:79:1
 same-length : tie.Need-same-length
 same-length c = search needs
 
--- src/text.rt:79:1
 returns : tie.Need-returns
 returns c = put-put (put-put (put-put (put-put (c .before .before .before .before .before .before .before .before .before .before .before .before .before .before .before .before .before .before .put-byte .ensures) (c .before .before .before .before .before .before .before .before .before .before .before .before .before .before .put-byte2 .ensures)) (c .before .before .before .before .before .before .before .before .before .before .put-byte3 .ensures)) (c .before .before .before .before .before .before .put-byte4 .ensures)) (c .before .before .put-byte5 .ensures)
 

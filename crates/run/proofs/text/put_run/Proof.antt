@@ -6,39 +6,27 @@ use Rattle.run.proofs.Printed.{load-most, call-lines-most, done-text, r
 use borrow.Author.Needs.{needs}
 use Rattle.run.proofs.text.put_run.Statement.{statement}
 use Rattle.run.proofs.text.put_run.Tie as tie
-use Rattle.run.proofs.text.put_run.Reads as reads
-use Rattle.run.proofs.text.put_run.Lts as lts
-use Rattle.run.proofs.bench.calls_start.Reads as calls-start-reads
-use Rattle.run.proofs.bench.load_input.Reads as load-input-reads
-use Rattle.run.proofs.text.put_cut.Reads as put-cut-reads
-use Rattle.run.proofs.text.put_lines.Reads as put-lines-reads
-use Rattle.run.proofs.text.put_load.Reads as put-load-reads
 
--- src/text.rt:131:9
 calls-start-requires : tie.Need-calls-start-requires
 calls-start-requires c κs = search needs
 
--- src/text.rt:132:9
 load-input-requires : tie.Need-load-input-requires
 load-input-requires c κs = search needs
 
--- src/text.rt:134:9
 put-load-requires : tie.Need-put-load-requires
 put-load-requires c κs = search needs
 
--- src/text.rt:136:13
 put-lines-requires : tie.Need-put-lines-requires
 put-lines-requires c κs =
     let start = c .before .before .before .before .before .before .before .before .before .before in
-    let load = c .before .before .before .before .put-load .ensures in
-    ((omega (arith, c .before .before .before .before .before .before .before .calls-start .ensures), start .pre .0),
-    omega (arith, load .next, put-long load, load-most (c .before .before .before .before .before .before .load-input .result .number), start .pre .0, start .pre .1))
+    let load = c .before .before .before .before .put-load .ensures in (
+      (omega (arith, c .before .before .before .before .before .before .before .calls-start .ensures), start .pre .0),
+      omega (arith, load .next, put-long load, load-most (c .before .before .before .before .before .before .load-input .result .number), start .pre .0, start .pre .1),
+    )
 
--- src/text.rt:137:32
 sub-put-cut : tie.Need-sub-put-cut
 sub-put-cut c = search needs
 
--- src/text.rt:137:9
 put-cut-requires : tie.Need-put-cut-requires
 put-cut-requires c κs =
     let start = c .before .before .before .before .before .before .before .before .before .before .before .before .before .before in
@@ -50,11 +38,9 @@ put-cut-requires c κs =
     let first = load-most (c .before .before .before .before .before .before .before .before .before .before .load-input .result .number) in
     omega (arith, load .next, put-long load, first, lines .next, put-long lines, most, all, start .pre .0, start .pre .1)
 
--- src/text.rt:137:9
 same-length : tie.Need-same-length
 same-length c = search needs
 
--- src/text.rt:137:9
 returns : tie.Need-returns
 returns c =
     let start = c .before .before .before .before .before .before .before .before .before .before .before .before .before .before .before .before .before in
@@ -62,11 +48,9 @@ returns c =
     rw (← done-text (start .args .input .now) (c .before .before .before .before .before .before .before .before .before .before .before .before .before .before .calls-start .ensures) (rw (← loaded) (c .before .before .before .before .before .before .before .before .if1 .taken)), ← loaded)
     (put-put (c .before .before .before .before .before .before .before .before .before .before .before .put-load .ensures) (put-put (c .before .before .before .before .before .before .put-lines .ensures) (c .before .before .put-cut .ensures)))
 
--- src/text.rt:127:1
 same-length-2 : tie.Need-same-length-2
 same-length-2 c = search needs
 
--- src/text.rt:127:1
 returns-2 : tie.Need-returns-2
 returns-2 c =
     let start = c .before .before .before .before .before .before .before .before .before in

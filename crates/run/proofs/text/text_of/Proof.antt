@@ -6,27 +6,19 @@ use Rattle.run.proofs.Puts.{put-none}
 use borrow.Author.Needs.{needs}
 use Rattle.run.proofs.text.text_of.Statement.{statement}
 use Rattle.run.proofs.text.text_of.Tie as tie
-use Rattle.run.proofs.text.text_of.Reads as reads
-use Rattle.run.proofs.text.text_of.Lts as lts
-use Rattle.run.proofs.text.put_long.Reads as put-long-reads
-use Rattle.run.proofs.text.put_run.Reads as put-run-reads
 
--- src/text.rt:147:9
 returns : tie.Need-returns
 unfolding printed
 returns c =
     let out = c .before .before .before .args .out .now in
     rw (lt-leb 100000 (length out) (c .if1 .taken)) (put-none out 0)
 
--- src/text.rt:150:9
 put-long-requires : tie.Need-put-long-requires
 put-long-requires c κs = search needs
 
--- src/text.rt:150:9
 same-length : tie.Need-same-length
 same-length c = search needs
 
--- src/text.rt:150:9
 returns-2 : tie.Need-returns-2
 unfolding printed textOf
 returns-2 c =
@@ -34,15 +26,12 @@ returns-2 c =
     let input = c .before .before .before .before .before .before .before .before .args .input .now in
     rw (le-leb 100000 (length out) (c .before .before .before .before .before .if1 .left), lt-ltb 32768 (length input) (c .before .before .before .before .if2 .taken)) (c .before .before .put-long .ensures)
 
--- src/text.rt:152:5
 put-run-requires : tie.Need-put-run-requires
 put-run-requires c κs = search needs
 
--- src/text.rt:143:1
 same-length-2 : tie.Need-same-length-2
 same-length-2 c = search needs
 
--- src/text.rt:143:1
 returns-3 : tie.Need-returns-3
 unfolding printed textOf
 returns-3 c =
