@@ -1,13 +1,10 @@
 -- Bodies that stand one after another, read into a list and into the places of an array.
 use Prim.Native.Nat.{ℕ, zero, suc, _+_, _*_, _-_, _≤_, _<_}
 use mathlib.Core.Path.{_≡_, refl, ap}
-use mathlib.Core.Bool.{Bool, true, false, _&&_}
 use mathlib.Core.List.{List, [], _∷_}
 use native.Mathlib.Omega.{arith}
 use native.Mathlib.Nat.{mul-suc}
-use lib.Dec.{leb}
 use lib.ListN.{length, getD, set}
-use Rattle.rules.specs.Refusals.{pick}
 use Rattle.image.specs.Bytes.{entries}
 use Rattle.image.specs.Description.{pad}
 
@@ -66,10 +63,3 @@ pad-past z (suc n) [] zero h = refl
 pad-past z (suc n) [] (suc i) h = pad-past z n [] i (omega arith)
 pad-past z (suc n) (x ∷ l) zero h = absurd (omega arith)
 pad-past z (suc n) (x ∷ l) (suc i) h = pad-past z n l i (omega arith)
-
--- a memory size that is 0 for an exponent out of range is as good as the memory size, where the range is tested before
-pub memory-guarded : (a inRange b₁ b₂ b₃ : Bool) (x most : ℕ)
-    → a && inRange && b₁ && b₂ && b₃ && leb (pick inRange x 0) most ≡ a && inRange && b₁ && b₂ && b₃ && leb x most
-memory-guarded a true b₁ b₂ b₃ x most = refl
-memory-guarded true false b₁ b₂ b₃ x most = refl
-memory-guarded false false b₁ b₂ b₃ x most = refl

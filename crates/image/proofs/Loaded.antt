@@ -21,6 +21,7 @@ pub record Loaded (m : Machine) : Type 0 where
   pub sound : isSound m ≡ true
   pub runs-first : m .current ≡ 0
   pub live : m .registers ≡ liveOf (getD (m .table) 0 noProgram)
+  pub flag-clear : m .registers .pending ≡ false
   pub no-depth : m .depth ≡ 0
   pub no-field : (i : ℕ) → 2 * m .pages ≤ i → getD (m .fields) i 0 ≡ 0
   pub no-program : (i : ℕ) → m .programs ≤ i → getD (m .table) i noProgram ≡ noProgram
@@ -48,6 +49,7 @@ module _ (s : List ℕ) (passed : Passed s) where
         });
         runs-first = refl;
         live = ap liveOf (sym (pad-at noProgram 8 programs 0 (omega arith)));
+        flag-clear = refl;
         no-depth = refl;
         no-field = λ i past. pad-past 0 256 (fieldsOf s) i (omega arith);
         no-program = λ i past. pad-past noProgram 8 programs i past;

@@ -1,7 +1,5 @@
 // Bytes and 16-bit fields of an image, read at any place: 0 past the image's end.
 ghost use mathlib.Core.Path.{_≡_};
-ghost use Prim.Native.Nat.{_+_, _*_};
-ghost use Rattle.machine.specs.Calls.{modeOf};
 ghost use Rattle.image.specs.Bytes.{byteAt, wordAt, wordOf};
 ghost use Rattle.image.specs.Load.{kindAt, zeroAt, offsetAt, lengthAt, fieldAt, contextAt, maskAt, modeAt};
 

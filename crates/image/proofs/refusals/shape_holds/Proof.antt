@@ -1,9 +1,20 @@
 -- `image::refusals::shape_holds` meets its contract: its tests are those of the definition, on what was read.
+use Prim.Native.Nat.{ℕ}
+use mathlib.Core.Path.{_≡_, refl}
+use mathlib.Core.Bool.{Bool, true, false, _&&_}
+use lib.Dec.{leb}
+use Rattle.rules.specs.Refusals.{pick}
 use Rattle.image.specs.Load.{shapeTests}
-use Rattle.image.proofs.Entries.{memory-guarded}
 use borrow.Author.Needs.{needs}
 use Rattle.image.proofs.refusals.shape_holds.Statement.{statement}
 use Rattle.image.proofs.refusals.shape_holds.Tie as tie
+
+-- a memory size that is 0 for an exponent out of range is as good as the memory size, where the range is tested before
+memory-guarded : (a inRange b₁ b₂ b₃ : Bool) (x most : ℕ)
+    → a && inRange && b₁ && b₂ && b₃ && leb (pick inRange x 0) most ≡ a && inRange && b₁ && b₂ && b₃ && leb x most
+memory-guarded a true b₁ b₂ b₃ x most = refl
+memory-guarded true false b₁ b₂ b₃ x most = refl
+memory-guarded false false b₁ b₂ b₃ x most = refl
 
 byte-at-requires : tie.Need-byte-at-requires
 byte-at-requires c κs = search needs
