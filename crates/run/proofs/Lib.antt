@@ -3,3 +3,4 @@ mod Steps
 mod Sent
 mod Puts
 mod Printed
+mod Examples

@@ -1,0 +1,62 @@
+-- Computed examples: each kind of record with parts that differ, and the sample node's whole text, from document 01.
+use Prim.Native.Nat.{ℕ}
+use mathlib.Core.Path.{_≡_, refl}
+use mathlib.Core.List.{List, [], _∷_, _++_}
+use lib.Count.{trailingZeros}
+use Rattle.rules.specs.Domains.{domainBit, prevailing}
+use Rattle.image.specs.Description.{machineOf}
+use Rattle.image.specs.Load.{loadOf, loadChecks, lengthTests, kindTests, shapeEntryTests, shapeTests, bodyTests, describe}
+use Rattle.image.specs.Sample.{sampleBytes}
+use Rattle.machine.specs.Machine.{isSound}
+use Rattle.machine.specs.Calls.{callOf, checksOf, accessChecks, commandChecks, effectOf, entered, returned, switched, after}
+use Rattle.machine.specs.declared.record.Call.the-variants.{Access, Grant, Revoke, SetMask, Enter, Return, Switch, StoreField, StoreContext, StoreMask, StoreMode}
+use Rattle.run.specs.Records.{callOfKind, callsOf, stepOf, pageOf, domainOf}
+use Rattle.run.specs.Run.{answersFrom, callAnswers}
+use Rattle.run.specs.Text.{letters, decimalOf, lineOf, linesFrom, cutOf, loadLine, runText, textOf}
+use Rattle.run.specs.declared.records.Decoded.the-variants.{Known, Unknown}
+
+-- a record of a kind, with right 1, A = 0x0203 and B = 0x0405
+record-of : ℕ → List ℕ → List ℕ
+record-of kind rest = kind ∷ 1 ∷ 2 ∷ 3 ∷ 4 ∷ 5 ∷ rest
+
+-- "Kinds: 1 access, address A × 65,536 + B; 2 grant and 3 revoke, page A, domain B; ..", and a remainder that is no call
+kinds-read :
+    callsOf
+    (record-of 0 (record-of 1 (record-of 2 (record-of 3 (record-of 4 (record-of 5 (record-of 6 (record-of 7 (record-of 8
+    (record-of 9 (record-of 10 (record-of 11 (record-of 12 (1 ∷ 1 ∷ 2 ∷ 3 ∷ 4 ∷ []))))))))))))))
+    ≡ Unknown
+    ∷ Known (Access 1 0x02030405)
+    ∷ Known (Grant 1 (pageOf 0x0203) (domainOf 0x0405))
+    ∷ Known (Revoke 1 (pageOf 0x0203) (domainOf 0x0405))
+    ∷ Known (SetMask 0x0405)
+    ∷ Known Enter
+    ∷ Known Return
+    ∷ Known (Switch 0x0405)
+    ∷ Known (StoreField 1 (pageOf 0x0203) 0x0405)
+    ∷ Known (StoreContext 0x0405)
+    ∷ Known (StoreMask 0x0405)
+    ∷ Known (StoreMode 0x0405)
+    ∷ Unknown
+    ∷ []
+unfolding record-of callsOf callOfKind
+kinds-read = refl
+
+-- "Input to `pagerun`: 00 2C, the image, then 01 00 00 00 00 10; 01 00 00 00 02 00; 04 00 00 00 00 07; 05 00 00 00 00 00;
+-- 07 00 00 00 00 01; 06 00 00 00 00 00; 01 00 00 00 02 00; 01 01 00 00 00 00."
+sampleInput : List ℕ
+sampleInput =
+    0x00 ∷ 0x2C ∷ (sampleBytes
+    ++ (0x01 ∷ 0x00 ∷ 0x00 ∷ 0x00 ∷ 0x00 ∷ 0x10
+    ∷ 0x01 ∷ 0x00 ∷ 0x00 ∷ 0x00 ∷ 0x02 ∷ 0x00
+    ∷ 0x04 ∷ 0x00 ∷ 0x00 ∷ 0x00 ∷ 0x00 ∷ 0x07
+    ∷ 0x05 ∷ 0x00 ∷ 0x00 ∷ 0x00 ∷ 0x00 ∷ 0x00
+    ∷ 0x07 ∷ 0x00 ∷ 0x00 ∷ 0x00 ∷ 0x00 ∷ 0x01
+    ∷ 0x06 ∷ 0x00 ∷ 0x00 ∷ 0x00 ∷ 0x00 ∷ 0x00
+    ∷ 0x01 ∷ 0x00 ∷ 0x00 ∷ 0x00 ∷ 0x02 ∷ 0x00
+    ∷ 0x01 ∷ 0x01 ∷ 0x00 ∷ 0x00 ∷ 0x00 ∷ 0x00
+    ∷ []))
+
+-- "Whole output, one item a line: `load 0`, `1 0`, `2 9`, `3 8`, `4 0`, `5 0`, `6 0`, `7 0`, `8 9`."
+sample-printed : textOf sampleInput ≡ letters "load 0\n1 0\n2 9\n3 8\n4 0\n5 0\n6 0\n7 0\n8 9\n"
+unfolding sampleInput sampleBytes textOf runText loadLine decimalOf linesFrom lineOf cutOf callAnswers answersFrom callsOf callOfKind stepOf loadOf loadChecks lengthTests kindTests shapeEntryTests shapeTests bodyTests describe machineOf callOf checksOf accessChecks commandChecks effectOf entered returned switched after isSound prevailing domainBit trailingZeros
+sample-printed = refl
