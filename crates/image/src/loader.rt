@@ -6,6 +6,7 @@ use crate::bytes::mask_at;
 use crate::bytes::mode_at;
 use crate::refusals::load_number;
 use crate::refusals::program_place;
+use machine::calls::mode_of;
 use machine::record::Answered;
 use machine::record::Machine;
 use machine::record::Program;
@@ -14,7 +15,6 @@ use rules::registers::Mode;
 use rules::registers::Registers;
 ghost use mathlib.Core.Path.{_≡_};
 ghost use Rattle.machine.specs.Machine.{noProgram};
-ghost use Rattle.machine.specs.Calls.{modeOf};
 ghost use Rattle.image.specs.Description.{pad, machineOf};
 ghost use Rattle.image.specs.Load.{fieldsOf, programAt, programsOf, describe, loadOf};
 
@@ -33,16 +33,6 @@ fn fields_of(bytes: &[u8]) -> [u16; 256]
     fields
 }
 
-// The mode of a mode byte.
-fn mode_of(byte: u8) -> Mode
-    ensures { λ r. ⌜ r ≡ modeOf byte ⌝ }
-{
-    if byte == 0 {
-        return Mode::User;
-    }
-    Mode::Privileged
-}
-
 // The program that stands at a place.
 fn program_at(bytes: &[u8], at: u16) -> Program
     ensures { λ r. ⌜ r ≡ programAt (now (bytes .entry)) at ⌝ }
@@ -50,7 +40,7 @@ fn program_at(bytes: &[u8], at: u16) -> Program
     Program {
         context: context_at(bytes, at),
         mask: mask_at(bytes, at),
-        mode: mode_of(mode_at(bytes, at)),
+        mode: mode_of(mode_at(bytes, at) as u16),
     }
 }
 

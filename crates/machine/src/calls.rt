@@ -23,7 +23,6 @@ use rules::domains::prevailing_of;
 use rules::domains::with_bit;
 use rules::domains::without_bit;
 use rules::registers::Mode;
-use rules::registers::Registers;
 ghost use mathlib.Core.Path.{_≡_};
 ghost use mathlib.Core.Bool.{not};
 ghost use Prim.Native.Nat.{_-_};
@@ -51,7 +50,7 @@ fn below(depth: u8) -> usize
 }
 
 // The mode of a number.
-fn mode_of(number: u16) -> Mode
+pub fn mode_of(number: u16) -> Mode
     ensures { λ r. ⌜ r ≡ modeOf number ⌝ }
 {
     if number == 0 {

@@ -12,6 +12,9 @@ mask-at-requires c κs = search needs
 mode-at-requires : tie.Need-mode-at-requires
 mode-at-requires c κs = search needs
 
+cast-mode-of : tie.Need-cast-mode-of
+cast-mode-of c = search needs
+
 mode-of-requires : tie.Need-mode-of-requires
 mode-of-requires c κs = search needs
 
@@ -27,4 +30,4 @@ returns c =
 pub program-at-spec : {M : Type 1} → statement M
 program-at-spec =
     tie.close
-    (tie.spec context-at-requires mask-at-requires mode-at-requires mode-of-requires returns)
+    (tie.spec context-at-requires mask-at-requires mode-at-requires cast-mode-of mode-of-requires returns)
