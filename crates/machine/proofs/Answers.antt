@@ -22,23 +22,19 @@ use Rattle.machine.specs.declared.record.Domain.{Domain}
 use Rattle.machine.specs.declared.record.Answered.{Answered}
 use Rattle.machine.specs.declared.record.Call.{Call}
 use Rattle.machine.specs.declared.record.Call.the-variants.{Access, Grant, Revoke, Enter, Return, Switch}
-use Rattle.machine.proofs.Sound.{sound-facts}
+use Rattle.machine.proofs.Sound.{and-both, sound-facts}
 
 -- no condition of the list answers k
 abbrev pub avoids : ℕ → List Check → Bool
 avoids k [] = not (eqb 0 k)
 avoids k ((met ⇒ number) ∷ rest) = not (eqb number k) && avoids k rest
 
-and-parts : (a b : Bool) → a && b ≡ true → (a ≡ true) × (b ≡ true)
-and-parts true b h = (refl, h)
-and-parts false b h = (h, cc)
-
 pub first-avoids : (k : ℕ) (checks : List Check) → avoids k checks ≡ true → eqb (first checks) k ≡ false
 first-avoids k [] h = not-true (eqb 0 k) h
 first-avoids k ((true ⇒ number) ∷ rest) h =
-    not-true (eqb number k) (and-parts (not (eqb number k)) (avoids k rest) h .0)
+    not-true (eqb number k) (and-both (not (eqb number k)) (avoids k rest) h .0)
 first-avoids k ((false ⇒ number) ∷ rest) h =
-    first-avoids k rest (and-parts (not (eqb number k)) (avoids k rest) h .1)
+    first-avoids k rest (and-both (not (eqb number k)) (avoids k rest) h .1)
 
 -- a list of conditions that gives 0: none of them is met
 pub none-met : (met : Bool) (number : ℕ) (rest : List Check) → first ((met ⇒ number) ∷ rest) ≡ 0 → eqb number 0 ≡ false

@@ -20,7 +20,7 @@ use Rattle.machine.specs.declared.record.Page.{Page}
 use Rattle.machine.specs.declared.record.Domain.{Domain}
 use Rattle.machine.specs.declared.record.Call.{Call}
 use Rattle.machine.specs.declared.record.Call.the-variants.{Access, Grant, Revoke, SetMask, Enter, Return, Switch, StoreField, StoreContext, StoreMask, StoreMode}
-use Rattle.machine.proofs.Sound.{sound-facts, moved-sound}
+use Rattle.machine.proofs.Sound.{and-both, sound-facts, moved-sound}
 use Rattle.machine.proofs.Entitled.{entitled}
 use Rattle.machine.proofs.Answers.{avoids, first-avoids, none-met, accepted, entry-below, switch-named, switch-depth}
 
@@ -29,14 +29,10 @@ abbrev within : List ℕ → List Check → Bool
 within l [] = isIn 0 l
 within l ((met ⇒ number) ∷ rest) = isIn number l && within l rest
 
-and-parts : (a b : Bool) → a && b ≡ true → (a ≡ true) × (b ≡ true)
-and-parts true b h = (refl, h)
-and-parts false b h = (h, cc)
-
 first-within : (l : List ℕ) (checks : List Check) → within l checks ≡ true → isIn (first checks) l ≡ true
 first-within l [] h = h
-first-within l ((true ⇒ number) ∷ rest) h = and-parts (isIn number l) (within l rest) h .0
-first-within l ((false ⇒ number) ∷ rest) h = first-within l rest (and-parts (isIn number l) (within l rest) h .1)
+first-within l ((true ⇒ number) ∷ rest) h = and-both (isIn number l) (within l rest) h .0
+first-within l ((false ⇒ number) ∷ rest) h = first-within l rest (and-both (isIn number l) (within l rest) h .1)
 
 -- what holds of the conditions of an access in privileged and in user mode holds of them
 either-mode : (P : List Check → Type 0) (privileged : Bool) (b₂ b₃ b₈ b₉ : Bool)

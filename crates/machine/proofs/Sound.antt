@@ -9,37 +9,33 @@ use Rattle.rules.specs.Refusals.{pick}
 use Rattle.machine.specs.Machine.{isSound, rangesHold, memorySize}
 use Rattle.machine.specs.declared.record.Machine.{Machine}
 
-and-left : (a b : Bool) → a && b ≡ true → a ≡ true
-and-left true b h = refl
-and-left false b h = h
-
-and-right : (a b : Bool) → a && b ≡ true → b ≡ true
-and-right true b h = h
-and-right false b h = cc
+pub and-both : (a b : Bool) → a && b ≡ true → (a ≡ true) × (b ≡ true)
+and-both true b h = (refl, h)
+and-both false b h = (h, cc)
 
 -- each of seven tests that all hold
 seven : (a b c d e f g : Bool) → a && b && c && d && e && f && g ≡ true
     → (a ≡ true) × (b ≡ true) × (c ≡ true) × (d ≡ true) × (e ≡ true) × (f ≡ true) × (g ≡ true)
 seven a b c d e f g h =
-    let h₆ = and-left (a && b && c && d && e && f) g h in
-    let h₅ = and-left (a && b && c && d && e) f h₆ in
-    let h₄ = and-left (a && b && c && d) e h₅ in
-    let h₃ = and-left (a && b && c) d h₄ in
-    let h₂ = and-left (a && b) c h₃ in (
-      and-left a b h₂,
-      and-right a b h₂,
-      and-right (a && b) c h₃,
-      and-right (a && b && c) d h₄,
-      and-right (a && b && c && d) e h₅,
-      and-right (a && b && c && d && e) f h₆,
-      and-right (a && b && c && d && e && f) g h,
+    let h₆ = and-both (a && b && c && d && e && f) g h .0 in
+    let h₅ = and-both (a && b && c && d && e) f h₆ .0 in
+    let h₄ = and-both (a && b && c && d) e h₅ .0 in
+    let h₃ = and-both (a && b && c) d h₄ .0 in
+    let h₂ = and-both (a && b) c h₃ .0 in (
+      and-both a b h₂ .0,
+      and-both a b h₂ .1,
+      and-both (a && b) c h₃ .1,
+      and-both (a && b && c) d h₄ .1,
+      and-both (a && b && c && d) e h₅ .1,
+      and-both (a && b && c && d && e) f h₆ .1,
+      and-both (a && b && c && d && e && f) g h .1,
     )
 
 four : (a b c d : Bool) → a && b && c && d ≡ true → (a ≡ true) × (b ≡ true) × (c ≡ true) × (d ≡ true)
 four a b c d h =
-    let h₃ = and-left (a && b && c) d h in
-    let h₂ = and-left (a && b) c h₃ in
-    (and-left a b h₂, and-right a b h₂, and-right (a && b) c h₃, and-right (a && b && c) d h)
+    let h₃ = and-both (a && b && c) d h .0 in
+    let h₂ = and-both (a && b) c h₃ .0 in
+    (and-both a b h₂ .0, and-both a b h₂ .1, and-both (a && b) c h₃ .1, and-both (a && b && c) d h .1)
 
 ranges : (m : Machine) → rangesHold m ≡ true
     → (leb 1 (m .pages) ≡ true) × (leb (m .pages) 128 ≡ true) × (leb 5 (m .exponent) ≡ true)

@@ -14,6 +14,7 @@ use native.Mathlib.Omega.{arith}
 use Rattle.rules.specs.Domains.{domainBit, holds, withBit, withoutBit, prevailing}
 use Rattle.rules.specs.Refusals.{pick}
 use Rattle.rules.specs.declared.domains.Prevailing.the-variants.{Absent, At}
+use Rattle.rules.proofs.Laws.{domain-bit}
 
 -- ---- AND and OR, digit by digit
 
@@ -81,16 +82,12 @@ lower-parts : (s : ℕ) → s < 16 → (65535 - 2 ^ s) % 2 ^ s ≡ 2 ^ s - 1
 unfolding every
 lower-parts s h = eqb-true _ _ (every-holds 16 (λ n. eqb ((65535 - 2 ^ n) % 2 ^ n) (2 ^ n - 1)) refl s h)
 
-bit-of : (s : ℕ) → s < 16 → domainBit s ≡ 2 ^ s
-unfolding domainBit
-bit-of s h = rw (lt-ltb s 16 h)
-
 not-held : (context s : ℕ) → holds context s ≡ false → bitAnd context (domainBit s) ≡ 0
 not-held context s h = eqb-true _ _ (not-false (eqb (bitAnd context (domainBit s)) 0) h)
 
 module _ (field context s : ℕ) (known : s < 16) (lacks : holds context s ≡ false) (small : context < 65536) where
   lacks-bit : bitAnd (2 ^ s) context ≡ 0
-  lacks-bit = and-comm (2 ^ s) context ∙ (rw (bit-of s known) at (not-held context s lacks))
+  lacks-bit = and-comm (2 ^ s) context ∙ (rw (domain-bit s known) at (not-held context s lacks))
 
   others : bitAnd (65535 - 2 ^ s) context ≡ context
   others =
@@ -101,8 +98,8 @@ module _ (field context s : ℕ) (known : s < 16) (lacks : holds context s ≡ f
   -- a context that does not hold domain s does not see it granted, nor revoked
   pub unseen : (granting : Bool) → bitAnd (pick granting (withBit field s) (withoutBit field s)) context ≡ bitAnd field context
   unseen true =
-      rw (bit-of s known) (and-or field (2 ^ s) context ∙ rw lacks-bit (or-zero-r (bitAnd field context)))
-  unseen false = rw (bit-of s known) (and-assoc field (65535 - 2 ^ s) context ∙ ap (bitAnd field) others)
+      rw (domain-bit s known) (and-or field (2 ^ s) context ∙ rw lacks-bit (or-zero-r (bitAnd field context)))
+  unseen false = rw (domain-bit s known) (and-assoc field (65535 - 2 ^ s) context ∙ ap (bitAnd field) others)
 
 -- two fields that a context sees alike it sees alike after a grant, and after a revocation
 pub seen-alike : (one two context s : ℕ) → bitAnd one context ≡ bitAnd two context → (granting : Bool)
@@ -157,11 +154,11 @@ trailing-same (suc k) (suc s) n n′ same less =
 
 lower-set : (field s : ℕ) → s < 16 → withBit field s % 2 ^ s ≡ field % 2 ^ s
 lower-set field s known =
-    rw (bit-of s known) (or-mod field (2 ^ s) s ∙ rw (mod-self (2 ^ s)) (or-zero-r (field % 2 ^ s)))
+    rw (domain-bit s known) (or-mod field (2 ^ s) s ∙ rw (mod-self (2 ^ s)) (or-zero-r (field % 2 ^ s)))
 
 lower-cleared : (field s : ℕ) → s < 16 → withoutBit field s % 2 ^ s ≡ field % 2 ^ s
 lower-cleared field s known =
-    rw (bit-of s known)
+    rw (domain-bit s known)
     (and-mod field (65535 - 2 ^ s) s ∙ rw (lower-parts s known) (and-mask (field % 2 ^ s) s ∙ mod-mod field (2 ^ s)))
 
 -- a field that differs from another only from s on has the same prevailing domain, where that is below s
