@@ -6,3 +6,4 @@ pub mod Readings
 pub mod Cases
 pub mod View
 pub mod Turn
+pub mod MaskCommand

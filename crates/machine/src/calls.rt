@@ -14,7 +14,6 @@ use rules::decisions::checked;
 use rules::decisions::command_number;
 use rules::decisions::entry_number;
 use rules::decisions::field_number;
-use rules::decisions::mask_number;
 use rules::decisions::mode_number;
 use rules::decisions::register_number;
 use rules::decisions::return_number;
@@ -23,6 +22,7 @@ use rules::domains::prevailing_of;
 use rules::domains::with_bit;
 use rules::domains::without_bit;
 use rules::registers::Mode;
+use rules::registers::replace_mask;
 ghost use mathlib.Core.Path.{_≡_};
 ghost use mathlib.Core.Bool.{not};
 ghost use Prim.Native.Nat.{_-_};
@@ -158,11 +158,10 @@ impl Machine {
         ensures { λ r. ⌜ r ≡ callOf self (Call.SetMask mask) ⌝ }
     {
         let registers = self.registers;
-        let number = checked(
-            !self.sound(),
-            mask_number(registers.privileged(), registers.pending),
-        );
-        let after = registers.or_where(number == 0, registers.with_mask(mask));
+        let done = replace_mask(registers, mask);
+        let number = checked(!self.sound(), done.number);
+        let others = done.registers;
+        let after = registers.or_where(number == 0, others);
         self.registers = after;
         Answered {
             number,

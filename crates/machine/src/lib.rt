@@ -1,5 +1,7 @@
-// The machine and its calls (document 01): every call takes the machine by value and gives it back with its answer.
+// The machine and its calls (document 01): every call takes the machine by value and gives it back with its answer; the mask
+// command is also there on the register record that the kernel lends.
 pub mod calls;
+pub mod lent;
 pub mod record;
 
 pub use record::Answered;

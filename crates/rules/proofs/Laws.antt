@@ -1,15 +1,16 @@
--- Laws of domain bits and of the prevailing domain that a wrong reading breaks, where the definition and the code were changed
--- together.
+-- Laws of domain bits, of the prevailing domain and of the mask command on the register record that a wrong reading breaks, where
+-- the definition and the code were changed together.
 use Prim.Native.Nat.{ℕ, _≤_, _<_, _^_}
 use mathlib.Core.Path.{_≡_, refl}
 use mathlib.Core.Bool.{true, false}
 use mathlib.Core.List.{[], _∷_, map}
 use native.Mathlib.Nat.{le-refl}
-use borrow.Author.Tests.{lt-ltb, le-ltb, le-leb}
+use borrow.Author.Tests.{lt-ltb, le-ltb, le-leb, ne-eqb}
 use lib.Count.{trailingZeros}
-use Rattle.rules.specs.Registers.{localContext}
+use Rattle.rules.specs.Registers.{localContext, maskedOf}
 use Rattle.rules.specs.Domains.{domainBit, prevailing, isOutside, isNotLower, withBit, withoutBit}
-use Rattle.rules.specs.declared.registers.Mode.the-variants.{User}
+use Rattle.rules.specs.declared.registers.Mode.the-variants.{User, Privileged}
+use Rattle.rules.specs.declared.registers.Registers.{Registers}
 use Rattle.rules.specs.declared.domains.Prevailing.the-variants.{Absent, At}
 
 -- "bit s is domain s", for the sixteen domains and no other number
@@ -43,3 +44,26 @@ pub bit-cases :
     ≡ 11 ∷ 9 ∷ 1 ∷ 9 ∷ 32767 ∷ 3 ∷ []
 unfolding domainBit
 bit-cases = refl
+
+-- "Then the mask is replaced, including bits outside the global context": the mask as it was given, and nothing else
+pub mask-replaced : (r : Registers) (bits : ℕ) → maskedOf r bits .number ≡ 0
+    → maskedOf r bits .registers ≡ record { context = r .context; mask = bits; mode = r .mode; pending = r .pending }
+unfolding maskedOf
+mask-replaced r bits n = rw n
+
+-- a mask command that is refused leaves the record as it was
+pub mask-refused : (r : Registers) (bits : ℕ) → (maskedOf r bits .number ≡ 0 → ⊥) → maskedOf r bits .registers ≡ r
+unfolding maskedOf
+mask-refused r bits n = rw (ne-eqb (maskedOf r bits .number) 0 n)
+
+-- "6 in privileged mode; 8", computed for each mode and flag, also for a record that no sound machine holds
+pub mask-number-cases :
+    map (λ (r : Registers). maskedOf r 12 .number)
+    (record { context = 7; mask = 3; mode = User; pending = false }
+    ∷ record { context = 7; mask = 3; mode = User; pending = true }
+    ∷ record { context = 7; mask = 3; mode = Privileged; pending = false }
+    ∷ record { context = 7; mask = 3; mode = Privileged; pending = true }
+    ∷ [])
+    ≡ 0 ∷ 8 ∷ 6 ∷ 6 ∷ []
+unfolding maskedOf
+mask-number-cases = refl

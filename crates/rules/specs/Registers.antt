@@ -1,10 +1,14 @@
 -- The live registers (document 01, "The machine").
 use Prim.Native.Nat.{ℕ}
 use mathlib.Core.Bool.{Bool, true, false}
+use mathlib.Core.List.{[], _∷_}
 use lib.Bits.{bitAnd}
+use lib.Dec.{eqb}
+use Rattle.rules.specs.Refusals.{first, pick, _⇒_}
 use Rattle.rules.specs.declared.registers.Mode.{Mode}
 use Rattle.rules.specs.declared.registers.Mode.the-variants.{User, Privileged}
 use Rattle.rules.specs.declared.registers.Registers.{Registers}
+use Rattle.rules.specs.declared.registers.Masked.{Masked}
 
 -- "the live mode (user or privileged)"
 abbrev pub isPrivileged : Mode → Bool
@@ -27,3 +31,11 @@ withMode mode r = record { context = r .context; mask = r .mask; mode = mode; pe
 
 abbrev pub withPending : Bool → Registers → Registers
 withPending pending r = record { context = r .context; mask = r .mask; mode = r .mode; pending = pending }
+
+-- "lends it to the mask command, which .. answers as below without the check for 1": "6 in privileged mode; 8."
+abbrev pub maskNumber : Registers → ℕ
+maskNumber r = first ((isPrivileged (r .mode) ⇒ 6) ∷ (r .pending ⇒ 8) ∷ [])
+
+-- "which alters it there": "Then the mask is replaced, including bits outside the global context."
+unfoldable pub maskedOf : Registers → ℕ → Masked
+maskedOf r bits = record { number = maskNumber r; registers = pick (eqb (maskNumber r) 0) (withMask bits r) r }

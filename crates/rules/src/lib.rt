@@ -5,5 +5,6 @@ pub mod domains;
 pub mod registers;
 
 pub use domains::Prevailing;
+pub use registers::Masked;
 pub use registers::Mode;
 pub use registers::Registers;

@@ -1,7 +1,8 @@
 // The live registers (document 01, "The machine").
+use crate::decisions::mask_number;
 ghost use mathlib.Core.Path.{_≡_};
 ghost use Rattle.rules.specs.Refusals.{pick};
-ghost use Rattle.rules.specs.Registers.{isPrivileged, localContext, withContext, withMask, withMode, withPending};
+ghost use Rattle.rules.specs.Registers.{isPrivileged, localContext, withContext, withMask, withMode, withPending, maskedOf};
 
 // The live mode, and a saved or stored one.
 pub enum Mode {
@@ -15,6 +16,12 @@ pub struct Registers {
     pub mask: u16,
     pub mode: Mode,
     pub pending: bool,
+}
+
+// What the mask command makes of a register record: its number, and the record after it.
+pub struct Masked {
+    pub number: u8,
+    pub registers: Registers,
 }
 
 impl Mode {
@@ -95,5 +102,17 @@ impl Registers {
         ensures { λ r. ⌜ r ≡ pick done others self ⌝ }
     {
         if done { others } else { self }
+    }
+}
+
+// The mask command on a register record, without the check for 1.
+pub fn replace_mask(registers: Registers, mask: u16) -> Masked
+    ensures { λ r. ⌜ r ≡ maskedOf registers mask ⌝ }
+{
+    let number = mask_number(registers.privileged(), registers.pending);
+    let after = registers.or_where(number == 0, registers.with_mask(mask));
+    Masked {
+        number,
+        registers: after,
     }
 }

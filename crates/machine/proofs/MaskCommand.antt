@@ -1,0 +1,44 @@
+-- The mask command on the register record and the one on the machine do the same to a sound machine's registers, by cases over
+-- the mode, the flag and soundness.
+use Prim.Native.Nat.{ℕ}
+use mathlib.Core.Path.{_≡_, refl}
+use mathlib.Core.Bool.{Bool, true, false}
+use lib.Dec.{eqb}
+use Rattle.rules.specs.Refusals.{pick}
+use Rattle.rules.specs.Registers.{isPrivileged, withMask, maskNumber, maskedOf}
+use Rattle.rules.specs.declared.registers.Registers.{Registers}
+use Rattle.machine.specs.Machine.{isSound, withRegisters}
+use Rattle.machine.specs.Calls.{callOf, checksOf, effectOf, after}
+use Rattle.machine.specs.declared.record.Machine.{Machine}
+use Rattle.machine.specs.declared.record.Call.the-variants.{SetMask}
+
+-- where the machine's number is 0, the record is the one with the mask replaced
+pub accepted : (r : Registers) (bits : ℕ) (unsound : Bool)
+    → pick (eqb (pick unsound 1 (maskNumber r)) 0) (maskedOf r bits .registers) r
+    ≡ pick (eqb (pick unsound 1 (maskNumber r)) 0) (withMask bits r) r
+unfolding maskedOf
+accepted r bits true = refl
+accepted r bits false = split (eqb (maskNumber r) 0)
+  where
+    split : (b : Bool) → pick b (pick b (withMask bits r) r) r ≡ pick b (withMask bits r) r
+    split true = refl
+    split false = refl
+
+-- "answers as below without the check for 1"
+pub lent-answers : (m : Machine) (bits : ℕ) → isSound m ≡ true
+    → callOf m (SetMask bits) .number ≡ maskedOf (m .registers) bits .number
+unfolding callOf checksOf maskedOf
+lent-answers m bits sound = rw sound
+
+-- "alters it there"
+pub lent-alters : (m : Machine) (bits : ℕ) → isSound m ≡ true
+    → callOf m (SetMask bits) .machine .registers ≡ maskedOf (m .registers) bits .registers
+unfolding callOf checksOf effectOf after maskedOf
+lent-alters m bits sound = rw sound (split (isPrivileged (m .registers .mode)) (m .registers .pending))
+  where
+    split : (privileged pending : Bool)
+        → after (pick privileged 6 (pick pending 8 0)) m (withRegisters (withMask bits (m .registers)) m) .registers
+        ≡ pick (eqb (pick privileged 6 (pick pending 8 0)) 0) (withMask bits (m .registers)) (m .registers)
+    split true pending = refl
+    split false true = refl
+    split false false = refl
