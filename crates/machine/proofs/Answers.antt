@@ -13,7 +13,7 @@ use Rattle.rules.specs.Domains.{prevailing, withBit, withoutBit}
 use Rattle.rules.specs.Refusals.{Check, _⇒_, first, pick}
 use Rattle.rules.specs.declared.registers.Registers.{Registers}
 use Rattle.machine.specs.Machine.{isSound, fieldOf, placeOf, withFields, withRegisters, withStack, withPrograms}
-use Rattle.machine.specs.Calls.{callOf, checksOf, commandChecks, effectOf, inUserMode, numberOf, after, violated}
+use Rattle.machine.specs.Calls.{callOf, changeCall, checksOf, commandChecks, effectOf, inUserMode, numberOf, after, violated}
 use Rattle.machine.specs.declared.record.Machine.{Machine}
 use Rattle.machine.specs.declared.record.Saved.{Saved}
 use Rattle.machine.specs.declared.record.Program.{Program}
@@ -21,7 +21,7 @@ use Rattle.machine.specs.declared.record.Page.{Page}
 use Rattle.machine.specs.declared.record.Domain.{Domain}
 use Rattle.machine.specs.declared.record.Answered.{Answered}
 use Rattle.machine.specs.declared.record.Call.{Call}
-use Rattle.machine.specs.declared.record.Call.the-variants.{Access, Grant, Revoke, Enter, Return, Switch}
+use Rattle.machine.specs.declared.record.Call.the-variants.{Access, Enter, Return, Switch}
 use Rattle.machine.proofs.Sound.{and-both, sound-facts}
 
 -- no condition of the list answers k
@@ -41,6 +41,31 @@ pub none-met : (met : Bool) (number : ℕ) (rest : List Check) → first ((met �
     → (met ≡ false) × (first rest ≡ 0)
 none-met true number rest h e = absurd (eqb-false number 0 e h)
 none-met false number rest h e = (refl, h)
+
+-- the machine after a call, by its three cases
+pub after-cases : (P : Machine → Type 0) (n : ℕ) (m effect : Machine) → (n ≡ 0 → P effect) → (n ≡ 9 → P (violated m)) → P m
+    → P (after n m effect)
+unfolding after
+after-cases P n m effect done violation same = split (eqb n 0) refl (eqb n 9) refl
+  where
+    split : (b : Bool) → eqb n 0 ≡ b → (d : Bool) → eqb n 9 ≡ d → P (pick b effect (pick d (violated m) m))
+    split true e d f = done (eqb-true n 0 e)
+    split false e true f = violation (eqb-true n 9 f)
+    split false e false f = same
+
+-- two machines after calls of one number
+pub after-both : (R : Machine → Machine → Type 0) (n : ℕ) {m m′ effect effect′ : Machine}
+    → R effect effect′ → R (violated m) (violated m′) → R m m′ → R (after n m effect) (after n m′ effect′)
+unfolding after
+after-both R n {m} {m′} {effect} {effect′} done violation same = split (eqb n 0) (eqb n 9)
+  where
+    split : (b d : Bool) → R (pick b effect (pick d (violated m) m)) (pick b effect′ (pick d (violated m′) m′))
+    split true d = done
+    split false true = violation
+    split false false = same
+
+pub not-nine : (m : Machine) (call : Call) → avoids 9 (checksOf m call) ≡ true → numberOf m call ≡ 9 → ⊥
+not-nine m call never = eqb-false (numberOf m call) 9 (first-avoids 9 ((not (isSound m) ⇒ 1) ∷ checksOf m call) never)
 
 module _ (m : Machine) (call : Call) where
   -- an accepted call: the machine is sound, and no condition of the call is met
@@ -114,17 +139,21 @@ store-answered m call {n} {fields} {field} {bits} at new read number never effec
 -- grant and revoke have one list of conditions, and effects that differ in the bit operation alone
 module _ (m : Machine) (right : ℕ) (page : Page) (s : Domain) where
   pub change-checks : (granting : Bool)
-      → checksOf m (pick granting (Grant right page s) (Revoke right page s)) ≡ commandChecks m right page s (prevailing (fieldOf m right (page .0)))
+      → checksOf m (changeCall granting right page s) ≡ commandChecks m right page s (prevailing (fieldOf m right (page .0)))
   unfolding checksOf
   change-checks true = refl
   change-checks false = refl
 
   pub change-effect : (granting : Bool)
-      → effectOf m (pick granting (Grant right page s) (Revoke right page s))
+      → effectOf m (changeCall granting right page s)
       ≡ withFields (set (m .fields) (placeOf right (page .0)) (pick granting (withBit (fieldOf m right (page .0)) (s .0)) (withoutBit (fieldOf m right (page .0)) (s .0)))) m
   unfolding effectOf
   change-effect true = refl
   change-effect false = refl
+
+  pub change-avoids : (granting : Bool) → avoids 9 (checksOf m (changeCall granting right page s)) ≡ true
+  unfolding commandChecks
+  change-avoids granting = rw (change-checks granting)
 
   -- a grant or a revocation, from what its code read, worked out and stored
   pub change-answered : (granting : Bool) {n : ℕ} {fields : List ℕ} {field at bits : ℕ}
@@ -132,11 +161,11 @@ module _ (m : Machine) (right : ℕ) (page : Page) (s : Domain) where
       → n ≡ pick (not (isSound m)) 1 (first (commandChecks m right page s (prevailing field)))
       → bits ≡ pick (eqb n 0) (pick granting (withBit field (s .0)) (withoutBit field (s .0))) field → fields ≡ set (m .fields) at bits
       → _≡_ {A = Answered} (record { number = n; machine = withFields fields m })
-      (callOf m (pick granting (Grant right page s) (Revoke right page s)))
+      (callOf m (changeCall granting right page s))
   unfolding commandChecks
   change-answered granting {n} {fields} {field} {at} {bits} read place number chosen written =
-      let call = pick granting (Grant right page s) (Revoke right page s) in
-      store-answered m call at _ read (rw (change-checks granting) (number ∙ rw (read, place))) (rw (change-checks granting))
+      let call = changeCall granting right page s in
+      store-answered m call at _ read (rw (change-checks granting) (number ∙ rw (read, place))) (change-avoids granting)
       (change-effect granting ∙ rw (← place, ← read)) chosen written
 
 -- an access changes nothing but the flag, and that where it answers 9

@@ -24,7 +24,7 @@ use Rattle.machine.specs.declared.record.Domain.{Domain}
 use Rattle.machine.specs.declared.record.Call.{Call}
 use Rattle.machine.specs.declared.record.Call.the-variants.{Access, Grant, Revoke, SetMask}
 use Rattle.machine.proofs.Entitled.{Entitled, entitled}
-use Rattle.machine.proofs.Answers.{avoids, first-avoids, change-checks, change-effect}
+use Rattle.machine.proofs.Answers.{avoids, first-avoids, after-cases, after-both, not-nine, change-avoids, change-checks, change-effect}
 
 -- the calls of a turn after its entry, switch and return
 pub data IsCommand : Call → Type 0 where
@@ -78,36 +78,6 @@ module _ (m : Machine) (granting : Bool) (right : ℕ) (page : Page) (s : Domain
     change-unmoved =
         map-set-same prevailing (m .fields) (placeOf right (page .0)) _ 0
         (unmoved (fieldOf m right (page .0)) (s .0) (e .domain) (e .domain-known) (e .prevails) (e .lower) granting)
-
-  change-avoids : avoids 9 (checksOf m (pick granting (Grant right page s) (Revoke right page s))) ≡ true
-  unfolding commandChecks
-  change-avoids = rw (change-checks m right page s granting)
-
--- ---- the machine after a call, by its three cases
-
-after-cases : (P : Machine → Type 0) (n : ℕ) (m effect : Machine) → (n ≡ 0 → P effect) → (n ≡ 9 → P (violated m)) → P m
-    → P (after n m effect)
-unfolding after
-after-cases P n m effect done violation same = split (eqb n 0) refl (eqb n 9) refl
-  where
-    split : (b : Bool) → eqb n 0 ≡ b → (d : Bool) → eqb n 9 ≡ d → P (pick b effect (pick d (violated m) m))
-    split true e d f = done (eqb-true n 0 e)
-    split false e true f = violation (eqb-true n 9 f)
-    split false e false f = same
-
--- two machines after calls of one number
-after-both : (R : Machine → Machine → Type 0) (n : ℕ) {m m′ effect effect′ : Machine}
-    → R effect effect′ → R (violated m) (violated m′) → R m m′ → R (after n m effect) (after n m′ effect′)
-unfolding after
-after-both R n {m} {m′} {effect} {effect′} done violation same = split (eqb n 0) (eqb n 9)
-  where
-    split : (b d : Bool) → R (pick b effect (pick d (violated m) m)) (pick b effect′ (pick d (violated m′) m′))
-    split true d = done
-    split false true = violation
-    split false false = same
-
-not-nine : (m : Machine) (call : Call) → avoids 9 (checksOf m call) ≡ true → numberOf m call ≡ 9 → ⊥
-not-nine m call never = eqb-false (numberOf m call) 9 (first-avoids 9 ((not (isSound m) ⇒ 1) ∷ checksOf m call) never)
 
 mask-avoids : (m : Machine) (bits : ℕ) → avoids 9 (checksOf m (SetMask bits)) ≡ true
 unfolding checksOf
@@ -185,7 +155,7 @@ module _ (m : Machine) where
       rw (change-effect m right page s granting)
       (stays-with m (m .registers .mask) (m .registers .pending) (changedFields m granting right page s)
       (change-unmoved m granting right page s (entitled m granting right page s h)) (λ k. k)))
-      (λ h. absurd (not-nine m call (change-avoids m granting right page s) h))
+      (λ h. absurd (not-nine m call (change-avoids m right page s granting) h))
       same-stays
   command-stays (a-mask bits) =
       after-cases (Stays m) (numberOf m (SetMask bits)) m (effectOf m (SetMask bits))

@@ -150,3 +150,11 @@ after number m effect = pick (eqb number 0) effect (pick (eqb number 9) (violate
 -- "Every call takes the machine and gives it back with an answer."
 unfoldable pub callOf : Machine → Call → Answered
 callOf m call = record { number = numberOf m call; machine = after (numberOf m call) m (effectOf m call) }
+
+-- a grant or a revocation
+abbrev pub changeCall : Bool → ℕ → Page → Domain → Call
+changeCall granting right page s = pick granting (Grant right page s) (Revoke right page s)
+
+-- what comes back of a call on lent fields, which hold the fields after it: the machine of the answer keeps its own
+abbrev pub apart : List ℕ → Answered → Answered
+apart own answer = record { number = answer .number; machine = withFields own (answer .machine) }

@@ -9,6 +9,8 @@ use crate::record::Saved;
 use crate::record::memory_size;
 use crate::record::page_of;
 use crate::record::place;
+use crate::record::read_field;
+use crate::record::write_field;
 use rules::decisions::access_number;
 use rules::decisions::checked;
 use rules::decisions::command_number;
@@ -26,17 +28,27 @@ use rules::registers::replace_mask;
 ghost use mathlib.Core.Path.{_≡_};
 ghost use mathlib.Core.Bool.{not};
 ghost use Prim.Native.Nat.{_-_};
-ghost use Rattle.rules.specs.Domains.{prevailing};
+ghost use Rattle.rules.specs.Domains.{prevailing, withBit, withoutBit};
 ghost use Rattle.rules.specs.Refusals.{pick, first};
-ghost use Rattle.machine.specs.Machine.{isSound};
+ghost use Rattle.machine.specs.Machine.{isSound, withFields};
 ghost use Rattle.machine.specs.declared.record.Call.{Call};
-ghost use Rattle.machine.specs.Calls.{callOf, accessChecks, commandChecks, modeOf};
+ghost use Rattle.machine.specs.Calls.{callOf, apart, changeCall, accessChecks, commandChecks, modeOf};
 
 // The new value where a call was accepted, else the old one.
 fn chosen(done: bool, new: u16, old: u16) -> u16
     ensures { λ r. ⌜ r ≡ pick done new old ⌝ }
 {
     if done { new } else { old }
+}
+
+// The bits of a field after an accepted grant or revocation.
+fn changed_bits(granting: bool, field: u16, s: u16) -> u16
+    ensures { λ r. ⌜ r ≡ pick granting (withBit field s) (withoutBit field s) ⌝ }
+{
+    if granting {
+        return with_bit(field, s);
+    }
+    without_bit(field, s)
 }
 
 // The place below a depth.
@@ -75,16 +87,13 @@ impl Machine {
         checked(!self.sound(), number)
     }
 
-    pub fn access(mut self, right: u8, address: u32) -> Answered
-        ensures { λ r. ⌜ r ≡ callOf self (Call.Access right address) ⌝ }
+    // The access on lent fields: the machine keeps its own.
+    pub fn access_lent(mut self, fields: &[u16], right: u8, address: u32) -> Answered
+        ensures { λ r. ⌜ r ≡ apart (self .fields) (callOf (withFields (now (fields .entry)) self) (Call.Access right address)) ⌝ }
     {
         let registers = self.registers;
         let at = place(right, page_of(address, self.exponent));
-        let fields = self.fields;
-        let mut field: u16 = 0;
-        if at < 256 {
-            field = fields[at];
-        }
+        let field = read_field(fields, at);
         let number = self.access_at(right, address, field);
         let after = registers.or_where(number == 9, registers.with_pending(true));
         self.registers = after;
@@ -92,6 +101,13 @@ impl Machine {
             number,
             machine: self,
         }
+    }
+
+    pub fn access(self, right: u8, address: u32) -> Answered
+        ensures { λ r. ⌜ r ≡ callOf self (Call.Access right address) ⌝ }
+    {
+        let fields = self.fields;
+        self.access_lent(&fields, right, address)
     }
 
     // The number of a grant or a revocation, from the field of that right to that page.
@@ -112,20 +128,31 @@ impl Machine {
         checked(!self.sound(), number)
     }
 
+    // The grant or the revocation on lent fields, which it alters there: its number.
+    pub fn change_lent(
+        self,
+        fields: &mut [u16],
+        granting: bool,
+        right: u8,
+        page: Page,
+        domain: Domain,
+    ) -> u8
+        ensures { λ r. ⌜ r ≡ callOf (withFields (now (fields .entry)) self) (changeCall granting right page domain) .number ⌝ }
+        ensures { λ _. ⌜ now (fields .exit) ≡ callOf (withFields (now (fields .entry)) self) (changeCall granting right page domain) .machine .fields ⌝ }
+    {
+        let at = place(right, page.0 as u32);
+        let field = read_field(fields, at);
+        let number = self.change_number(right, page, domain, field);
+        let bits = changed_bits(granting, field, domain.0);
+        write_field(fields, at, chosen(number == 0, bits, field));
+        number
+    }
+
     pub fn grant(mut self, right: u8, page: Page, domain: Domain) -> Answered
         ensures { λ r. ⌜ r ≡ callOf self (Call.Grant right page domain) ⌝ }
     {
-        let at = place(right, page.0 as u32);
         let mut fields = self.fields;
-        let mut field: u16 = 0;
-        if at < 256 {
-            field = fields[at];
-        }
-        let number = self.change_number(right, page, domain, field);
-        let bits = chosen(number == 0, with_bit(field, domain.0), field);
-        if at < 256 {
-            fields[at] = bits;
-        }
+        let number = self.change_lent(&mut fields, true, right, page, domain);
         self.fields = fields;
         Answered {
             number,
@@ -136,17 +163,8 @@ impl Machine {
     pub fn revoke(mut self, right: u8, page: Page, domain: Domain) -> Answered
         ensures { λ r. ⌜ r ≡ callOf self (Call.Revoke right page domain) ⌝ }
     {
-        let at = place(right, page.0 as u32);
         let mut fields = self.fields;
-        let mut field: u16 = 0;
-        if at < 256 {
-            field = fields[at];
-        }
-        let number = self.change_number(right, page, domain, field);
-        let bits = chosen(number == 0, without_bit(field, domain.0), field);
-        if at < 256 {
-            fields[at] = bits;
-        }
+        let number = self.change_lent(&mut fields, false, right, page, domain);
         self.fields = fields;
         Answered {
             number,
@@ -262,17 +280,12 @@ impl Machine {
         }
     }
 
-    // The kernel's store of a field.
-    pub fn store_field(mut self, right: u8, page: Page, bits: u16) -> Answered
-        ensures { λ r. ⌜ r ≡ callOf self (Call.StoreField right page bits) ⌝ }
+    // The kernel's store of a field on lent fields, which it alters there: its number.
+    pub fn store_lent(self, fields: &mut [u16], right: u8, page: Page, bits: u16) -> u8
+        ensures { λ r. ⌜ r ≡ callOf (withFields (now (fields .entry)) self) (Call.StoreField right page bits) .number ⌝ }
+        ensures { λ _. ⌜ now (fields .exit) ≡ callOf (withFields (now (fields .entry)) self) (Call.StoreField right page bits) .machine .fields ⌝ }
     {
         let registers = self.registers;
-        let at = place(right, page.0 as u32);
-        let mut fields = self.fields;
-        let mut field: u16 = 0;
-        if at < 256 {
-            field = fields[at];
-        }
         let number = checked(
             !self.sound(),
             field_number(
@@ -281,10 +294,18 @@ impl Machine {
                 !registers.privileged(),
             ),
         );
-        let after = chosen(number == 0, bits, field);
-        if at < 256 {
-            fields[at] = after;
-        }
+        let at = place(right, page.0 as u32);
+        let field = read_field(fields, at);
+        write_field(fields, at, chosen(number == 0, bits, field));
+        number
+    }
+
+    // The kernel's store of a field.
+    pub fn store_field(mut self, right: u8, page: Page, bits: u16) -> Answered
+        ensures { λ r. ⌜ r ≡ callOf self (Call.StoreField right page bits) ⌝ }
+    {
+        let mut fields = self.fields;
+        let number = self.store_lent(&mut fields, right, page, bits);
         self.fields = fields;
         Answered {
             number,

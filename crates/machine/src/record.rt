@@ -4,6 +4,7 @@ use rules::registers::Registers;
 ghost use mathlib.Core.Path.{_≡_};
 ghost use Prim.Native.Nat.{_*_, _^_, _/_};
 ghost use lib.Dec.{leb};
+ghost use lib.ListN.{getD, set};
 ghost use Rattle.rules.specs.Refusals.{pick};
 ghost use Rattle.machine.specs.Machine.{zero, isSound, placeOf};
 
@@ -136,4 +137,23 @@ pub fn place(right: u8, page: u32) -> usize
     ensures { λ r. ⌜ r ≡ placeOf right page ⌝ }
 {
     2 * (page as usize) + right as usize
+}
+
+// The field at a place of lent fields; 0 past their end.
+pub fn read_field(fields: &[u16], at: usize) -> u16
+    ensures { λ r. ⌜ r ≡ getD (now (fields .entry)) at 0 ⌝ }
+{
+    if at < fields.len() {
+        return fields[at];
+    }
+    0
+}
+
+// Other bits in the field at a place of lent fields; past their end nothing is stored.
+pub fn write_field(fields: &mut [u16], at: usize, bits: u16)
+    ensures { λ _. ⌜ now (fields .exit) ≡ set (now (fields .entry)) at bits ⌝ }
+{
+    if at < fields.len() {
+        fields[at] = bits;
+    }
 }
