@@ -1,7 +1,7 @@
 -- Calls on lent fields: an access leaves the fields alone; grant, revoke and the store of a field change nothing else; the other
 -- seven neither look at the fields nor change them.
 use Prim.Native.Nat.{ℕ}
-use mathlib.Core.Path.{_≡_, refl, ap, sym}
+use mathlib.Core.Path.{_≡_, refl, ap, sym, _∙_}
 use mathlib.Core.Bool.{Bool, true, false, true≢false}
 use mathlib.Core.List.{List}
 use Rattle.machine.specs.Machine.{isSound, withFields}
@@ -27,7 +27,7 @@ abbrev FieldsAlone : Machine → Call → Type 0
 FieldsAlone m call =
     _≡_ {A = Answered} (record { number = callOf m call .number; machine = withFields (callOf m call .machine .fields) m }) (callOf m call)
 
-pub fields-alone : (m : Machine) (call : Call) {new : List ℕ} → avoids 9 (checksOf m call) ≡ true → effectOf m call ≡ withFields new m
+fields-alone : (m : Machine) (call : Call) {new : List ℕ} → avoids 9 (checksOf m call) ≡ true → effectOf m call ≡ withFields new m
     → FieldsAlone m call
 unfolding callOf
 fields-alone m call never effect =
@@ -39,6 +39,10 @@ pub change-alone : (m : Machine) (granting : Bool) (right : ℕ) (page : Page) (
     → FieldsAlone m (changeCall granting right page s)
 change-alone m granting right page s =
     fields-alone m (changeCall granting right page s) (change-avoids m right page s granting) (change-effect m right page s granting)
+
+pub store-alone : (m : Machine) (right : ℕ) (page : Page) (bits : ℕ) → FieldsAlone m (StoreField right page bits)
+unfolding checksOf effectOf
+store-alone m right page bits = fields-alone m (StoreField right page bits) refl refl
 
 -- the calls that look at no field
 abbrev pub looksAside : Call → Bool
@@ -65,7 +69,7 @@ module _ (lent : List ℕ) (m : Machine) where
       after-both (λ own other. Aside (record { number = n; machine = own }) (record { number = n; machine = other })) n
       (rw (← same), refl) (refl, refl) (refl, refl)
 
-  pub aside : (call : Call) → looksAside call ≡ true → Aside (callOf m call) (callOf (withFields lent m) call)
+  aside : (call : Call) → looksAside call ≡ true → Aside (callOf m call) (callOf (withFields lent m) call)
   unfolding callOf effectOf checksOf isSound entered returned switched
   aside (Access right address) h = absurd (true≢false (sym h))
   aside (Grant right page s) h = absurd (true≢false (sym h))
@@ -78,3 +82,16 @@ module _ (lent : List ℕ) (m : Machine) where
   aside (StoreContext bits) h = after-aside (numberOf m (StoreContext bits)) (effectOf m (StoreContext bits)) refl
   aside (StoreMask bits) h = after-aside (numberOf m (StoreMask bits)) (effectOf m (StoreMask bits)) refl
   aside (StoreMode mode) h = after-aside (numberOf m (StoreMode mode)) (effectOf m (StoreMode mode)) refl
+
+  -- the three kinds of call on the lent fields: an answer of the machine with its own fields, and the lent fields after the call
+  pub looked-aside : (call : Call) {r : Answered} → looksAside call ≡ true → r ≡ callOf m call → Aside r (callOf (withFields lent m) call)
+  looked-aside call h e =
+      let p = aside call h in
+      (e ∙ p .0, p .1)
+
+  pub access-kept : (right address : ℕ) → lent ≡ callOf (withFields lent m) (Access right address) .machine .fields
+  access-kept right address = ap (λ (r : Answered). r .machine .fields) (access-apart (withFields lent m) right address)
+
+  pub lent-alone : (call : Call) {n : ℕ} → FieldsAlone (withFields lent m) call → n ≡ callOf (withFields lent m) call .number
+      → _≡_ {A = Answered} (record { number = n; machine = m }) (apart (m .fields) (callOf (withFields lent m) call))
+  lent-alone call alone e = rw e (ap (apart (m .fields)) alone)

@@ -11,6 +11,8 @@ use lib.Dec.{eqb}
 use lib.ListN.{length, getD, set, drop, length-drop, List·getD-eq-default}
 use lib.Seq.{getD-drop, drop-drop, sets}
 use Rattle.image.specs.Bytes.{wordOf}
+use Rattle.machine.specs.Machine.{withFields}
+use Rattle.machine.specs.Calls.{apart}
 use Rattle.machine.specs.declared.record.Machine.{Machine}
 use Rattle.machine.specs.declared.record.Answered.{Answered}
 use Rattle.run.specs.Records.{kinds, callOfKind, callsOf, stepOf}
@@ -78,6 +80,11 @@ pub count-answers : (m : Machine) (calls : List Decoded) → length (answersFrom
 unfolding answersFrom
 count-answers m [] = refl
 count-answers m (call ∷ rest) = let more = count-answers (stepOf m call .machine) rest in omega arith
+
+-- what a step gives back and the lent fields after it, put together, are the step on the whole machine
+pub whole : {own fields : List ℕ} {r s : Answered} → r ≡ apart own s → fields ≡ s .machine .fields
+    → _≡_ {A = Answered} (record { number = r .number; machine = withFields fields (r .machine) }) s
+whole e f = rw (e, f)
 
 -- a turn of the loop over the calls: the answer of the record at a place, stored, and the answers of the calls past it, stored behind it,
 -- are the answers of the calls from that place on

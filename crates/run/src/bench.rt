@@ -46,6 +46,7 @@ fn answer_calls(start: Machine, input: &[u8], from: usize, answers: &mut [u8])
     requires { ⌜ 1 + (length (now input) - from) / 6 ≤ length (now answers) ⌝ }
     ensures { λ _. ⌜ now (answers .exit) ≡ sets (now (answers .entry)) 1 (answersFrom start (callsOf (drop from (now (input .entry))))) ⌝ }
 {
+    let mut fields = start.fields;
     let mut answered = Answered {
         number: 0,
         machine: start,
@@ -53,7 +54,7 @@ fn answer_calls(start: Machine, input: &[u8], from: usize, answers: &mut [u8])
     let mut at = from;
     let mut i: usize = 1;
     while 6 <= input.len() - at {
-        answered = step(answered.machine, decode(input, at));
+        answered = step(answered.machine, &mut fields, decode(input, at));
         answers[i] = answered.number;
         i += 1;
         at += 6;

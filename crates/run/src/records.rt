@@ -9,6 +9,8 @@ ghost use mathlib.Core.Path.{_≡_};
 ghost use Prim.Native.Nat.{_+_, _*_, _≤_};
 ghost use lib.ListN.{length, getD};
 ghost use Rattle.image.specs.Bytes.{wordOf};
+ghost use Rattle.machine.specs.Machine.{withFields};
+ghost use Rattle.machine.specs.Calls.{apart};
 ghost use Rattle.run.specs.Records.{callOfKind, stepOf};
 
 // A record read: one of the eleven calls, or none of them.
@@ -57,9 +59,11 @@ pub fn decode(bytes: &[u8], at: usize) -> Decoded
     )
 }
 
-// One step: the call on the machine, or 18 for a record that is none.
-pub fn step(machine: Machine, decoded: Decoded) -> Answered
-    ensures { λ r. ⌜ r ≡ stepOf machine decoded ⌝ }
+// One step: the call on the machine with the lent fields, or 18 for a record that is none. The fields are lent, since a machine that
+// goes through a loop with them inside is copied at every turn; the machine that comes back keeps its own.
+pub fn step(machine: Machine, fields: &mut [u16], decoded: Decoded) -> Answered
+    ensures { λ r. ⌜ r ≡ apart (machine .fields) (stepOf (withFields (now (fields .entry)) machine) decoded) ⌝ }
+    ensures { λ _. ⌜ now (fields .exit) ≡ stepOf (withFields (now (fields .entry)) machine) decoded .machine .fields ⌝ }
 {
     let Decoded::Known(call) = decoded else {
         return Answered {
@@ -69,13 +73,21 @@ pub fn step(machine: Machine, decoded: Decoded) -> Answered
     };
     match call {
         Call::Access(right, address) => {
-            return machine.access(right, address);
+            return machine.access_lent(fields, right, address);
         }
         Call::Grant(right, page, domain) => {
-            return machine.grant(right, page, domain);
+            let number = machine.change_lent(fields, true, right, page, domain);
+            return Answered {
+                number,
+                machine,
+            };
         }
         Call::Revoke(right, page, domain) => {
-            return machine.revoke(right, page, domain);
+            let number = machine.change_lent(fields, false, right, page, domain);
+            return Answered {
+                number,
+                machine,
+            };
         }
         Call::SetMask(mask) => {
             return machine.set_mask(mask);
@@ -90,7 +102,11 @@ pub fn step(machine: Machine, decoded: Decoded) -> Answered
             return machine.switch_to(program);
         }
         Call::StoreField(right, page, bits) => {
-            return machine.store_field(right, page, bits);
+            let number = machine.store_lent(fields, right, page, bits);
+            return Answered {
+                number,
+                machine,
+            };
         }
         Call::StoreContext(bits) => {
             return machine.store_context(bits);

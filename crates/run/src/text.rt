@@ -106,6 +106,7 @@ fn put_lines(start: Machine, input: &[u8], from: usize, out: &mut [u8], at: usiz
     requires { ⌜ at + 12 * ((length (now input) - from) / 6) ≤ length (now out) ⌝ }
     ensures { λ r. ⌜ Put (now (out .entry)) at (linesFrom 1 (answersFrom start (callsOf (drop from (now (input .entry)))))) (now (out .exit)) r ⌝ }
 {
+    let mut fields = start.fields;
     let mut answered = Answered {
         number: 0,
         machine: start,
@@ -114,7 +115,7 @@ fn put_lines(start: Machine, input: &[u8], from: usize, out: &mut [u8], at: usiz
     let mut to = at;
     let mut i: u16 = 1;
     while 6 <= input.len() - next {
-        answered = step(answered.machine, decode(input, next));
+        answered = step(answered.machine, &mut fields, decode(input, next));
         to = put_line(out, to, i, answered.number);
         i += 1;
         next += 6;

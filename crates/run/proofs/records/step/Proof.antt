@@ -1,4 +1,8 @@
--- `run::records::step` meets its contract: each arm is the call that the record was decoded to.
+-- `run::records::step` meets its contract: each arm is the call that the record was decoded to, on the lent fields.
+use mathlib.Core.Path.{refl}
+use mathlib.Core.Bool.{true, false}
+use Rattle.machine.specs.declared.record.Call.the-variants.{Grant, Revoke, SetMask, Enter, Return, Switch, StoreField, StoreContext, StoreMask, StoreMode}
+use Rattle.machine.proofs.Apart.{looked-aside, access-kept, lent-alone, change-alone, store-alone}
 use Rattle.run.specs.Records.{stepOf}
 use borrow.Author.Needs.{needs}
 use Rattle.run.proofs.records.step.Statement.{statement}
@@ -12,40 +16,55 @@ enum-told c = search needs
 
 returns : tie.Need-returns
 unfolding stepOf
-returns c = rw (c .enum-told .given .1)
+returns c =
+    rw (c .enum-told .given .1) (refl, refl)
 
 enum-known-call : tie.Need-enum-known-call
 enum-known-call c = search needs
 
-access-requires : tie.Need-access-requires
-access-requires c κs = search needs
+access-lent-requires : tie.Need-access-lent-requires
+access-lent-requires c κs = search needs
+
+same-length : tie.Need-same-length
+same-length c = search needs
 
 returns-2 : tie.Need-returns-2
 unfolding stepOf
 returns-2 c =
-    rw (c .before .before .before .before .before .decoded .given .1, c .before .before .call .given .1) (c .access .ensures)
+    let a = c .before .before .before .before .before .before .before .before .before .args in
+    rw (c .before .before .before .before .before .before .decoded .given .1, c .before .before .before .call .given .1) (c .access-lent .ensures, access-kept (a .fields .now) (a .machine) _ _)
 
 enum-known-call-2 : tie.Need-enum-known-call-2
 enum-known-call-2 c = search needs
 
-grant-requires : tie.Need-grant-requires
-grant-requires c κs = search needs
+change-lent-requires : tie.Need-change-lent-requires
+change-lent-requires c κs = search needs
+
+same-length-2 : tie.Need-same-length-2
+same-length-2 c = search needs
 
 returns-3 : tie.Need-returns-3
 unfolding stepOf
 returns-3 c =
-    rw (c .before .before .before .before .before .decoded .given .1, c .before .before .call2 .given .1) (c .grant .ensures)
+    let a = c .before .before .before .before .before .before .before .before .before .before .before .args in
+    rw (c .before .before .before .before .before .before .before .before .decoded .given .1, c .before .before .before .before .before .call2 .given .1)
+    (lent-alone (a .fields .now) (a .machine) (Grant _ _ _) (change-alone _ true _ _ _) (c .before .before .change-lent .ensures .0), c .before .before .change-lent .ensures .1)
 
 enum-known-call-3 : tie.Need-enum-known-call-3
 enum-known-call-3 c = search needs
 
-revoke-requires : tie.Need-revoke-requires
-revoke-requires c κs = search needs
+change-lent-requires-2 : tie.Need-change-lent-requires-2
+change-lent-requires-2 c κs = search needs
+
+same-length-3 : tie.Need-same-length-3
+same-length-3 c = search needs
 
 returns-4 : tie.Need-returns-4
 unfolding stepOf
 returns-4 c =
-    rw (c .before .before .before .before .before .decoded .given .1, c .before .before .call3 .given .1) (c .revoke .ensures)
+    let a = c .before .before .before .before .before .before .before .before .before .before .before .args in
+    rw (c .before .before .before .before .before .before .before .before .decoded .given .1, c .before .before .before .before .before .call3 .given .1)
+    (lent-alone (a .fields .now) (a .machine) (Revoke _ _ _) (change-alone _ false _ _ _) (c .before .before .change-lent2 .ensures .0), c .before .before .change-lent2 .ensures .1)
 
 enum-known-call-4 : tie.Need-enum-known-call-4
 enum-known-call-4 c = search needs
@@ -56,7 +75,8 @@ set-mask-requires c κs = search needs
 returns-5 : tie.Need-returns-5
 unfolding stepOf
 returns-5 c =
-    rw (c .before .before .before .before .before .decoded .given .1, c .before .before .call4 .given .1) (c .set-mask .ensures)
+    let a = c .before .before .before .before .before .before .before .before .args in
+    rw (c .before .before .before .before .before .decoded .given .1, c .before .before .call4 .given .1) (looked-aside (a .fields .now) (a .machine) (SetMask _) refl (c .set-mask .ensures))
 
 enum-told-2 : tie.Need-enum-told-2
 enum-told-2 c = search needs
@@ -67,7 +87,8 @@ enter-requires c κs = search needs
 returns-6 : tie.Need-returns-6
 unfolding stepOf
 returns-6 c =
-    rw (c .before .before .before .before .decoded .given .1, c .before .enum-told2 .given .1) (c .enter .ensures)
+    let a = c .before .before .before .before .before .before .before .args in
+    rw (c .before .before .before .before .decoded .given .1, c .before .enum-told2 .given .1) (looked-aside (a .fields .now) (a .machine) (Enter) refl (c .enter .ensures))
 
 enum-told-3 : tie.Need-enum-told-3
 enum-told-3 c = search needs
@@ -78,7 +99,8 @@ leave-requires c κs = search needs
 returns-7 : tie.Need-returns-7
 unfolding stepOf
 returns-7 c =
-    rw (c .before .before .before .before .decoded .given .1, c .before .enum-told3 .given .1) (c .leave .ensures)
+    let a = c .before .before .before .before .before .before .before .args in
+    rw (c .before .before .before .before .decoded .given .1, c .before .enum-told3 .given .1) (looked-aside (a .fields .now) (a .machine) (Return) refl (c .leave .ensures))
 
 enum-known-call-5 : tie.Need-enum-known-call-5
 enum-known-call-5 c = search needs
@@ -89,18 +111,24 @@ switch-to-requires c κs = search needs
 returns-8 : tie.Need-returns-8
 unfolding stepOf
 returns-8 c =
-    rw (c .before .before .before .before .before .decoded .given .1, c .before .before .call5 .given .1) (c .switch-to .ensures)
+    let a = c .before .before .before .before .before .before .before .before .args in
+    rw (c .before .before .before .before .before .decoded .given .1, c .before .before .call5 .given .1) (looked-aside (a .fields .now) (a .machine) (Switch _) refl (c .switch-to .ensures))
 
 enum-known-call-6 : tie.Need-enum-known-call-6
 enum-known-call-6 c = search needs
 
-store-field-requires : tie.Need-store-field-requires
-store-field-requires c κs = search needs
+store-lent-requires : tie.Need-store-lent-requires
+store-lent-requires c κs = search needs
+
+same-length-4 : tie.Need-same-length-4
+same-length-4 c = search needs
 
 returns-9 : tie.Need-returns-9
 unfolding stepOf
 returns-9 c =
-    rw (c .before .before .before .before .before .decoded .given .1, c .before .before .call6 .given .1) (c .store-field .ensures)
+    let a = c .before .before .before .before .before .before .before .before .before .before .before .args in
+    rw (c .before .before .before .before .before .before .before .before .decoded .given .1, c .before .before .before .before .before .call6 .given .1)
+    (lent-alone (a .fields .now) (a .machine) (StoreField _ _ _) (store-alone _ _ _ _) (c .before .before .store-lent .ensures .0), c .before .before .store-lent .ensures .1)
 
 enum-known-call-7 : tie.Need-enum-known-call-7
 enum-known-call-7 c = search needs
@@ -111,7 +139,8 @@ store-context-requires c κs = search needs
 returns-10 : tie.Need-returns-10
 unfolding stepOf
 returns-10 c =
-    rw (c .before .before .before .before .before .decoded .given .1, c .before .before .call7 .given .1) (c .store-context .ensures)
+    let a = c .before .before .before .before .before .before .before .before .args in
+    rw (c .before .before .before .before .before .decoded .given .1, c .before .before .call7 .given .1) (looked-aside (a .fields .now) (a .machine) (StoreContext _) refl (c .store-context .ensures))
 
 enum-known-call-8 : tie.Need-enum-known-call-8
 enum-known-call-8 c = search needs
@@ -122,7 +151,8 @@ store-mask-requires c κs = search needs
 returns-11 : tie.Need-returns-11
 unfolding stepOf
 returns-11 c =
-    rw (c .before .before .before .before .before .decoded .given .1, c .before .before .call8 .given .1) (c .store-mask .ensures)
+    let a = c .before .before .before .before .before .before .before .before .args in
+    rw (c .before .before .before .before .before .decoded .given .1, c .before .before .call8 .given .1) (looked-aside (a .fields .now) (a .machine) (StoreMask _) refl (c .store-mask .ensures))
 
 enum-known-call-9 : tie.Need-enum-known-call-9
 enum-known-call-9 c = search needs
@@ -133,7 +163,8 @@ store-mode-requires c κs = search needs
 returns-12 : tie.Need-returns-12
 unfolding stepOf
 returns-12 c =
-    rw (c .before .before .before .before .before .decoded .given .1, c .before .before .call9 .given .1) (c .store-mode .ensures)
+    let a = c .before .before .before .before .before .before .before .before .args in
+    rw (c .before .before .before .before .before .decoded .given .1, c .before .before .call9 .given .1) (looked-aside (a .fields .now) (a .machine) (StoreMode _) refl (c .store-mode .ensures))
 
 pub step-spec : {M : Type 1} → statement M
 step-spec =
@@ -143,13 +174,16 @@ step-spec =
     enum-told
     returns
     enum-known-call
-    access-requires
+    access-lent-requires
+    same-length
     returns-2
     enum-known-call-2
-    grant-requires
+    change-lent-requires
+    same-length-2
     returns-3
     enum-known-call-3
-    revoke-requires
+    change-lent-requires-2
+    same-length-3
     returns-4
     enum-known-call-4
     set-mask-requires
@@ -164,7 +198,8 @@ step-spec =
     switch-to-requires
     returns-8
     enum-known-call-6
-    store-field-requires
+    store-lent-requires
+    same-length-4
     returns-9
     enum-known-call-7
     store-context-requires
