@@ -26,7 +26,7 @@ fn run_case(input: &[u8], number: u64) -> usize
     io::write_all(STDOUT_FILENO, b"case ");
     io::print_decimal(STDOUT_FILENO, number);
     io::write_all(STDOUT_FILENO, b"\n");
-    let size = run::text_of(input, &mut text);
+    let size = text::text_of(input, &mut text);
     if size <= 100000 {
         io::write_all(STDOUT_FILENO, &text[..size]);
     }

@@ -1,4 +1,4 @@
--- Computed examples: each kind of record with parts that differ, and the sample node's whole text, from document 01.
+-- Computed examples: each kind of record with parts that differ, and the sample node's answers, from document 01.
 use Prim.Native.Nat.{ℕ}
 use mathlib.Core.Path.{_≡_, refl}
 use mathlib.Core.List.{List, [], _∷_, _++_}
@@ -11,8 +11,7 @@ use Rattle.machine.specs.Machine.{isSound}
 use Rattle.machine.specs.Calls.{callOf, checksOf, accessChecks, commandChecks, effectOf, entered, returned, switched, after}
 use Rattle.machine.specs.declared.record.Call.the-variants.{Access, Grant, Revoke, SetMask, Enter, Return, Switch, StoreField, StoreContext, StoreMask, StoreMode}
 use Rattle.run.specs.Records.{callOfKind, callsOf, stepOf, pageOf, domainOf}
-use Rattle.run.specs.Run.{answersFrom, callAnswers}
-use Rattle.run.specs.Text.{letters, decimalOf, lineOf, linesFrom, cutOf, loadLine, runText, textOf}
+use Rattle.run.specs.Run.{answersFrom, answersOf, callAnswers}
 use Rattle.run.specs.declared.records.Decoded.the-variants.{Known, Unknown}
 
 -- a record of a kind, with right 1, A = 0x0203 and B = 0x0405
@@ -43,7 +42,7 @@ kinds-read = refl
 
 -- "Input to `pagerun`: 00 2C, the image, then 01 00 00 00 00 10; 01 00 00 00 02 00; 04 00 00 00 00 07; 05 00 00 00 00 00;
 -- 07 00 00 00 00 01; 06 00 00 00 00 00; 01 00 00 00 02 00; 01 01 00 00 00 00."
-sampleInput : List ℕ
+unfoldable pub sampleInput : List ℕ
 sampleInput =
     0x00 ∷ 0x2C ∷ (sampleBytes
     ++ (0x01 ∷ 0x00 ∷ 0x00 ∷ 0x00 ∷ 0x00 ∷ 0x10
@@ -57,6 +56,6 @@ sampleInput =
     ∷ []))
 
 -- "Whole output, one item a line: `load 0`, `1 0`, `2 9`, `3 8`, `4 0`, `5 0`, `6 0`, `7 0`, `8 9`."
-sample-printed : textOf sampleInput ≡ letters "load 0\n1 0\n2 9\n3 8\n4 0\n5 0\n6 0\n7 0\n8 9\n"
-unfolding sampleInput sampleBytes textOf runText loadLine decimalOf linesFrom lineOf cutOf callAnswers answersFrom callsOf callOfKind stepOf loadOf loadChecks lengthTests kindTests shapeEntryTests shapeTests bodyTests describe machineOf callOf checksOf accessChecks commandChecks effectOf entered returned switched after isSound prevailing domainBit trailingZeros
-sample-printed = refl
+pub sample-answered : answersOf sampleInput ≡ 0 ∷ 0 ∷ 9 ∷ 8 ∷ 0 ∷ 0 ∷ 0 ∷ 0 ∷ 9 ∷ []
+unfolding sampleInput sampleBytes callAnswers answersFrom callsOf callOfKind stepOf loadOf loadChecks lengthTests kindTests shapeEntryTests shapeTests bodyTests describe machineOf callOf checksOf accessChecks commandChecks effectOf entered returned switched after isSound prevailing domainBit trailingZeros
+sample-answered = refl

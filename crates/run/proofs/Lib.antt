@@ -1,6 +1,4 @@
 mod Parts
 mod Steps
-mod Sent
-mod Puts
-mod Printed
-mod Examples
+pub mod Sent
+pub mod Examples

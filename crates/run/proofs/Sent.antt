@@ -30,6 +30,10 @@ unfolding sent
 long-sends input entry h = nothing-sent input entry (rw (lt-ltb 32768 (length input) h))
 
 module _ (input entry : List ℕ) {end : ℕ} (ends : end ≡ min (2 + wordAt input 0) (length input)) where
+  -- how many bytes the calls are read from
+  pub bytes-left : length (callBytes input) ≡ length input - end
+  bytes-left = rw (← calls-part input ends) (length-drop end input)
+
   -- one answer of the load, and one of every six bytes after the image
   pub answers-count : length (answersOf input) ≡ pick (eqb (loadedOf input .number) 0) (1 + (length input - end) / 6) 1
   unfolding callAnswers
@@ -40,8 +44,7 @@ module _ (input entry : List ℕ) {end : ℕ} (ends : end ≡ min (2 + wordAt in
           ≡ pick b (1 + (length input - end) / 6) 1
       split true =
           let calls = count-answers (loadedOf input .machine) (callsOf (callBytes input)) ∙ count-calls (callBytes input) in
-          let left : length (callBytes input) ≡ length input - end = rw (← calls-part input ends) (length-drop end input) in
-          omega (arith, calls, left)
+          omega (arith, calls, bytes-left)
       split false = refl
 
   pub short-sends : {count : ℕ} → length input ≤ 32768 → count ≡ length (answersOf input) → length entry < count

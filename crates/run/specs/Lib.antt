@@ -1,4 +1,2 @@
 pub mod Records
 pub mod Run
-pub mod Text
-pub mod Put

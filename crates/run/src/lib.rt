@@ -1,9 +1,8 @@
-// The run over a whole input (document 01, "The run program"): the records of calls, their steps, the bench and the text.
+// The run over a whole input (document 01, "The run program"): the records of calls, their steps, and the bench.
 mod bench;
 mod records;
-mod text;
 
 pub use bench::bench_run;
+pub use bench::calls_start;
 pub use records::Decoded;
 pub use records::step;
-pub use text::text_of;

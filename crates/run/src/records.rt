@@ -77,17 +77,11 @@ pub fn step(machine: Machine, fields: &mut [u16], decoded: Decoded) -> Answered
         }
         Call::Grant(right, page, domain) => {
             let number = machine.change_lent(fields, true, right, page, domain);
-            return Answered {
-                number,
-                machine,
-            };
+            return Answered { number, machine };
         }
         Call::Revoke(right, page, domain) => {
             let number = machine.change_lent(fields, false, right, page, domain);
-            return Answered {
-                number,
-                machine,
-            };
+            return Answered { number, machine };
         }
         Call::SetMask(mask) => {
             return machine.set_mask(mask);
@@ -103,10 +97,7 @@ pub fn step(machine: Machine, fields: &mut [u16], decoded: Decoded) -> Answered
         }
         Call::StoreField(right, page, bits) => {
             let number = machine.store_lent(fields, right, page, bits);
-            return Answered {
-                number,
-                machine,
-            };
+            return Answered { number, machine };
         }
         Call::StoreContext(bits) => {
             return machine.store_context(bits);

@@ -1,13 +1,13 @@
--- `run::text::put_line` meets its contract: its parts are put one after another.
+-- `text::put_line` meets its contract: its parts are put one after another.
 use Prim.Native.Nat.{_+_, _≤_}
 use borrow.Author.Needs.{needs}
 use native.Mathlib.Omega.{arith}
 use native.Mathlib.Nat.{le-refl}
 use lib.ListN.{length}
-use Rattle.run.specs.Text.{lineOf}
-use Rattle.run.proofs.Puts.{put-put, room, decimal-most}
-use Rattle.run.proofs.text.put_line.Statement.{statement}
-use Rattle.run.proofs.text.put_line.Tie as tie
+use Rattle.text.specs.Text.{lineOf}
+use Rattle.text.proofs.Puts.{put-put, room, decimal-most}
+use Rattle.text.proofs.put_line.Statement.{statement}
+use Rattle.text.proofs.put_line.Tie as tie
 
 -- the room that is left past each part
 room₁ : (c : tie.After-put-decimal) → c .put-decimal .result + 7 ≤ length (c .put-decimal .last .0)

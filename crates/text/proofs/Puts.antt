@@ -1,22 +1,17 @@
 -- Texts put one after another are their join put at once; and how long the pieces of a line are at the most.
-use Prim.Native.Nat.{ℕ, suc, _+_, _/_, _%_, _≤_}
+use Prim.Native.Nat.{ℕ, suc, _+_, _/_, _%_, _≤_, _<_}
 use mathlib.Core.Path.{_≡_, refl, ap, sym, _∙_}
 use mathlib.Core.Bool.{Bool, true, false}
 use mathlib.Core.List.{List, [], _∷_, _++_}
 use native.Mathlib.Nat.{add-zero, add-suc, suc-add}
+use native.Mathlib.Numerals.{add-one}
 use native.Mathlib.Omega.{arith}
 use lib.Dec.{leb}
 use lib.ListN.{length, getD, set, drop, length-append}
-use lib.Seq.{sets, length-sets}
+use lib.Seq.{sets, length-sets, drop-cons}
 use Rattle.rules.specs.Refusals.{pick}
-use Rattle.run.specs.Put.{Put}
-use Rattle.run.specs.Text.{leadingDigit, decimalOf, lineOf, linesFrom}
-use Rattle.run.specs.Records.{callOfKind, callsOf, stepOf}
-use Rattle.run.specs.Run.{answersFrom}
-use Rattle.run.proofs.Steps.{next-record}
-use Rattle.image.specs.Bytes.{wordOf}
-use Rattle.machine.specs.declared.record.Machine.{Machine}
-use Rattle.machine.specs.declared.record.Answered.{Answered}
+use Rattle.text.specs.Put.{Put}
+use Rattle.text.specs.Text.{leadingDigit, decimalOf, lineOf, linesFrom}
 
 sets-append : (l : List ℕ) (i : ℕ) (s t : List ℕ) → sets (sets l i s) (i + length s) t ≡ sets l i (s ++ t)
 sets-append l i [] t = rw add-zero
@@ -60,19 +55,18 @@ pub line-most : (i answer : ℕ) → length (lineOf i answer) ≤ 12
 unfolding lineOf
 line-most i answer = simp length-append (omega (arith, decimal-most i, decimal-most answer))
 
--- a turn of the loop over the calls: the line of the record at a place, put, and the lines of the calls past it, put behind it, are the
--- lines of the calls from that place on
-pub turn-line : (input : List ℕ) (m : Machine) (at i : ℕ) {out out′ : List ℕ} {to to′ : ℕ} {r : Answered} → at + 6 ≤ length input
-    → r
-    ≡ stepOf m
-    (callOfKind (getD input at 0) (getD input (at + 1) 0) (wordOf (getD input (at + 2) 0) (getD input (at + 3) 0))
-    (wordOf (getD input (at + 4) 0) (getD input (at + 5) 0)))
-    → Put out to (lineOf i (r .number)) out′ to′
-    → (sets out′ to′ (linesFrom (i + 1) (answersFrom (r .machine) (callsOf (drop (at + 6) input))))
-    ≡ sets out to (linesFrom i (answersFrom m (callsOf (drop at input)))))
-    × (to′ + length (linesFrom (i + 1) (answersFrom (r .machine) (callsOf (drop (at + 6) input))))
-    ≡ to + length (linesFrom i (answersFrom m (callsOf (drop at input)))))
-unfolding answersFrom linesFrom
-turn-line input m at i {out} {out′} {to} {to′} {r} h e line =
-    let rest = linesFrom (i + 1) (answersFrom (r .machine) (callsOf (drop (at + 6) input))) in
-    rw (next-record input at h, ← e) (put-rest rest line, omega (arith, line .next, length-append (lineOf i (r .number)) rest))
+-- a turn of the loop over bytes: the byte at i stored at its place, and those past it behind it, are the bytes from i on
+pub turn-byte : (out bytes : List ℕ) (at i : ℕ) → i < length bytes
+    → sets (set out (at + i) (getD bytes i 0)) (at + (i + 1)) (drop (i + 1) bytes) ≡ sets out (at + i) (drop i bytes)
+turn-byte out bytes at i h = rw (drop-cons bytes i 0 h, add-one, add-suc)
+
+-- a turn of the loop over the answers: the line of the answer at i, put, and the lines of those past it, put behind it, are the lines of the
+-- answers from i on
+pub turn-line : (answers : List ℕ) (i : ℕ) {out out′ : List ℕ} {to to′ : ℕ} → i < length answers
+    → Put out to (lineOf i (getD answers i 0)) out′ to′
+    → (sets out′ to′ (linesFrom (i + 1) (drop (i + 1) answers)) ≡ sets out to (linesFrom i (drop i answers)))
+    × (to′ + length (linesFrom (i + 1) (drop (i + 1) answers)) ≡ to + length (linesFrom i (drop i answers)))
+unfolding linesFrom
+turn-line answers i h line =
+    let rest = linesFrom (suc i) (drop (suc i) answers) in
+    rw (drop-cons answers i 0 h, add-one) (put-rest rest line, omega (arith, line .next, length-append (lineOf i (getD answers i 0)) rest))

@@ -1,9 +1,9 @@
--- `run::text::put_leading` meets its contract: the test says whether the number has the digit.
+-- `text::put_leading` meets its contract: the test says whether the number has the digit.
 use borrow.Author.Tests.{le-leb, lt-leb}
-use Rattle.run.proofs.Puts.{put-none}
+use Rattle.text.proofs.Puts.{put-none}
 use borrow.Author.Needs.{needs}
-use Rattle.run.proofs.text.put_leading.Statement.{statement}
-use Rattle.run.proofs.text.put_leading.Tie as tie
+use Rattle.text.proofs.put_leading.Statement.{statement}
+use Rattle.text.proofs.put_leading.Tie as tie
 
 div-put-byte : tie.Need-div-put-byte
 div-put-byte c = search needs

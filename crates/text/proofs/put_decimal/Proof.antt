@@ -1,12 +1,12 @@
--- `run::text::put_decimal` meets its contract: its digits are put one after another.
+-- `text::put_decimal` meets its contract: its digits are put one after another.
 use Prim.Native.Nat.{_+_, _≤_}
 use borrow.Author.Needs.{needs}
 use native.Mathlib.Omega.{arith}
 use lib.ListN.{length}
-use Rattle.run.specs.Text.{decimalOf}
-use Rattle.run.proofs.Puts.{put-put, room, leading-most}
-use Rattle.run.proofs.text.put_decimal.Statement.{statement}
-use Rattle.run.proofs.text.put_decimal.Tie as tie
+use Rattle.text.specs.Text.{decimalOf}
+use Rattle.text.proofs.Puts.{put-put, room, leading-most}
+use Rattle.text.proofs.put_decimal.Statement.{statement}
+use Rattle.text.proofs.put_decimal.Tie as tie
 
 -- the room that is left past each part
 room₁ : (c : tie.After-put-leading) → c .put-leading .result + 4 ≤ length (c .put-leading .last .0)

@@ -1,20 +1,15 @@
-// The text that `pagerun` prints, made into a lent buffer (document 01, "The run program"). Each writer puts its text at a place where
-// the caller has seen that there is room, and answers the place past it.
-use crate::bench::calls_start;
-use crate::bench::load_input;
-use crate::records::decode;
-use crate::records::step;
-use machine::record::Answered;
-use machine::record::Machine;
+// The text that `pagerun` prints, made into a lent buffer from the answers of the run (document 01, "The run program"). Each writer puts
+// its text at a place where the caller has seen that there is room, and answers the place past it.
+use run::bench_run;
+use run::calls_start;
+ghost use mathlib.Core.Path.{_≡_};
 ghost use mathlib.Core.List.{[], _∷_};
-ghost use Prim.Native.Nat.{_+_, _*_, _-_, _/_, _%_, _≤_, _<_};
+ghost use Prim.Native.Nat.{_+_, _*_, _-_, _%_, _≤_, _<_};
 ghost use lib.ListN.{length, drop};
 ghost use lib.Dec.{eqb};
 ghost use Rattle.rules.specs.Refusals.{pick};
-ghost use Rattle.run.specs.Records.{callsOf};
-ghost use Rattle.run.specs.Run.{answersFrom};
-ghost use Rattle.run.specs.Text.{letters, leadingDigit, decimalOf, lineOf, linesFrom, loadLine, runText, printed};
-ghost use Rattle.run.specs.Put.{Put};
+ghost use Rattle.text.specs.Text.{letters, leadingDigit, decimalOf, lineOf, linesFrom, loadLine, runText, printed};
+ghost use Rattle.text.specs.Put.{Put};
 
 // One byte.
 fn put_byte(out: &mut [u8], at: usize, byte: u8) -> usize
@@ -23,6 +18,19 @@ fn put_byte(out: &mut [u8], at: usize, byte: u8) -> usize
 {
     out[at] = byte;
     at + 1
+}
+
+// Bytes as they are.
+fn put_bytes(out: &mut [u8], at: usize, bytes: &[u8]) -> usize
+    requires { ⌜ at + length (now bytes) ≤ length (now out) ⌝ }
+    ensures { λ r. ⌜ Put (now (out .entry)) at (now (bytes .entry)) (now (out .exit)) r ⌝ }
+{
+    let mut i: usize = 0;
+    while i < bytes.len() {
+        out[at + i] = bytes[i];
+        i += 1;
+    }
+    at + i
 }
 
 // The digit of n that counts a power of ten, where n has it.
@@ -65,25 +73,9 @@ fn put_load(out: &mut [u8], at: usize, answer: u8) -> usize
     requires { ⌜ at + 11 ≤ length (now out) ⌝ }
     ensures { λ r. ⌜ Put (now (out .entry)) at (loadLine answer) (now (out .exit)) r ⌝ }
 {
-    let a = put_byte(out, at, b'l');
-    let b = put_byte(out, a, b'o');
-    let c = put_byte(out, b, b'a');
-    let d = put_byte(out, c, b'd');
-    let e = put_byte(out, d, b' ');
-    let f = put_decimal(out, e, answer as u16);
-    put_byte(out, f, b'\n')
-}
-
-// The word for input that is too long.
-fn put_long(out: &mut [u8], at: usize) -> usize
-    requires { ⌜ at + 5 ≤ length (now out) ⌝ }
-    ensures { λ r. ⌜ Put (now (out .entry)) at (letters "long\n") (now (out .exit)) r ⌝ }
-{
-    let a = put_byte(out, at, b'l');
-    let b = put_byte(out, a, b'o');
-    let c = put_byte(out, b, b'n');
-    let d = put_byte(out, c, b'g');
-    put_byte(out, d, b'\n')
+    let a = put_bytes(out, at, b"load ");
+    let b = put_decimal(out, a, answer as u16);
+    put_byte(out, b, b'\n')
 }
 
 // The word for a remainder of the call bytes.
@@ -94,49 +86,46 @@ fn put_cut(out: &mut [u8], at: usize, left: usize) -> usize
     if left % 6 == 0 {
         return at;
     }
-    let a = put_byte(out, at, b'c');
-    let b = put_byte(out, a, b'u');
-    let c = put_byte(out, b, b't');
-    put_byte(out, c, b'\n')
+    put_bytes(out, at, b"cut\n")
 }
 
-// The lines of the calls from a place of the input on. The caller has seen that there is room for the longest.
-fn put_lines(start: Machine, input: &[u8], from: usize, out: &mut [u8], at: usize) -> usize
-    requires { ⌜ (from ≤ length (now input)) × (length (now input) ≤ 32768) ⌝ }
-    requires { ⌜ at + 12 * ((length (now input) - from) / 6) ≤ length (now out) ⌝ }
-    ensures { λ r. ⌜ Put (now (out .entry)) at (linesFrom 1 (answersFrom start (callsOf (drop from (now (input .entry)))))) (now (out .exit)) r ⌝ }
+// The lines of the calls, from the answers of a run, the load's first. The caller has seen that there is room for the longest.
+fn put_lines(answers: &[u8], out: &mut [u8], at: usize) -> usize
+    requires { ⌜ length (now answers) ≤ 65536 ⌝ }
+    requires { ⌜ at + 12 * (length (now answers) - 1) ≤ length (now out) ⌝ }
+    ensures { λ r. ⌜ Put (now (out .entry)) at (linesFrom 1 (drop 1 (now (answers .entry)))) (now (out .exit)) r ⌝ }
 {
-    let mut fields = start.fields;
-    let mut answered = Answered {
-        number: 0,
-        machine: start,
-    };
-    let mut next = from;
     let mut to = at;
-    let mut i: u16 = 1;
-    while 6 <= input.len() - next {
-        answered = step(answered.machine, &mut fields, decode(input, next));
-        to = put_line(out, to, i, answered.number);
+    let mut i: usize = 1;
+    while i < answers.len() {
+        to = put_line(out, to, i as u16, answers[i]);
         i += 1;
-        next += 6;
     }
     to
 }
 
-// The text of an input that is not too long.
+// The bytes that the calls were read from; none after a refused load.
+fn bytes_taken(number: u8, left: usize) -> usize
+    ensures { λ r. ⌜ r ≡ pick (eqb number 0) left 0 ⌝ }
+{
+    if number == 0 { left } else { 0 }
+}
+
+// The text of an input that is not too long: such an input has at most 5,462 answers.
 fn put_run(input: &[u8], out: &mut [u8]) -> usize
     requires { ⌜ (length (now input) ≤ 32768) × (100000 ≤ length (now out)) ⌝ }
     ensures { λ r. ⌜ Put (now (out .entry)) 0 (runText (now (input .entry))) (now (out .exit)) r ⌝ }
 {
-    let end = calls_start(input);
-    let loaded = load_input(input, end);
-    let number = loaded.number;
+    let mut answers = [0u8; 5462];
+    let count = bench_run(input, &mut answers);
+    let number = answers[0];
     let a = put_load(out, 0, number);
-    if number == 0 {
-        let b = put_lines(loaded.machine, input, end, out, a);
-        return put_cut(out, b, input.len() - end);
-    }
-    a
+    let b = put_lines(&answers[..count], out, a);
+    put_cut(
+        out,
+        b,
+        bytes_taken(number, input.len() - calls_start(input)),
+    )
 }
 
 // The text of an input, and how long it is: nothing where the buffer has under 100,000 bytes, which is room for every text.
@@ -147,7 +136,7 @@ pub fn text_of(input: &[u8], out: &mut [u8]) -> usize
         return 0;
     }
     if 32768 < input.len() {
-        return put_long(out, 0);
+        return put_bytes(out, 0, b"long\n");
     }
     put_run(input, out)
 }

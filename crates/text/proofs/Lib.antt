@@ -1,0 +1,3 @@
+mod Puts
+mod Printed
+mod Examples

@@ -1,0 +1,70 @@
+-- The text of an input from its parts, and how long they are at the most.
+use Prim.Native.Nat.{ℕ, _+_, _-_, _*_, _/_, _%_, _≤_, min}
+use mathlib.Core.Path.{_≡_, refl, ap, sym, _∙_}
+use mathlib.Core.Bool.{Bool, true, false}
+use mathlib.Core.List.{List, [], _∷_, _++_, append-nil}
+use native.Mathlib.Omega.{arith}
+use borrow.Author.Tests.{le-ltb, le-leb}
+use lib.Dec.{eqb}
+use lib.ListN.{length, getD, take, drop, length-append}
+use lib.Seq.{take-append-seam}
+use Rattle.rules.specs.Refusals.{pick}
+use Rattle.image.specs.Bytes.{wordAt}
+use Rattle.run.specs.Records.{callsOf}
+use Rattle.run.specs.Run.{answersFrom, answersOf, callAnswers, callBytes, loadedOf, sent}
+use Rattle.run.proofs.Sent.{answers-count, bytes-left}
+use Rattle.text.specs.Text.{letters, cutOf, linesFrom, loadLine, runText}
+use Rattle.text.proofs.Puts.{decimal-most, line-most}
+
+pub load-most : (number : ℕ) → length (loadLine number) ≤ 11
+unfolding loadLine
+load-most number = simp length-append (omega (arith, decimal-most number))
+
+pub lines-most : (i : ℕ) (answers : List ℕ) → length (linesFrom i answers) ≤ 12 * length answers
+unfolding linesFrom
+lines-most i [] = omega arith
+lines-most i (answer ∷ rest) =
+    simp length-append (omega (arith, line-most i answer, lines-most (i + 1) rest))
+
+-- an input of at most 32,768 bytes has room for its answers in 5,462
+pub answers-most : (input : List ℕ) → length input ≤ 32768 → length (answersOf input) ≤ 5462
+answers-most input within =
+    rw (answers-count input [] {end = min (2 + wordAt input 0) (length input)} refl) (split (eqb (loadedOf input .number) 0))
+  where
+    split : (b : Bool) → pick b (1 + (length input - min (2 + wordAt input 0) (length input)) / 6) 1 ≤ 5462
+    split true = omega arith
+    split false = omega arith
+
+-- so all of them are sent to a buffer of that size
+pub all-sent : (input : List ℕ) → length input ≤ 32768 → sent input 5462 ≡ answersOf input
+unfolding sent
+all-sent input within = rw (le-ltb 32768 (length input) within, le-leb (length (answersOf input)) 5462 (answers-most input within))
+
+-- what the bench says of such a buffer: its front is the answers, the load's first
+pub front : (input entry : List ℕ) {exit : List ℕ} {count : ℕ} → length input ≤ 32768 → length entry ≡ 5462
+    → count ≡ length (sent input (length entry)) → exit ≡ sent input (length entry) ++ drop (length (sent input (length entry))) entry
+    → (count ≡ length (answersOf input)) × (take count exit ≡ answersOf input) × (getD exit 0 0 ≡ loadedOf input .number)
+front input entry {exit} {count} within long counted stored =
+    let all : sent input (length entry) ≡ answersOf input = rw long (all-sent input within) in
+    let size : count ≡ length (answersOf input) = counted ∙ ap length all in
+    let held : exit ≡ answersOf input ++ drop (length (answersOf input)) entry = rw all at stored in
+    (size, rw (held, size) (take-append-seam (answersOf input) _), rw held)
+
+-- the text from the answers, and from the bytes that the calls were read from
+pub run-text : (input : List ℕ) {end : ℕ} → end ≡ min (2 + wordAt input 0) (length input)
+    → loadLine (loadedOf input .number)
+    ++ (linesFrom 1 (drop 1 (answersOf input))
+    ++ pick (eqb (pick (eqb (loadedOf input .number) 0) (length input - end) 0 % 6) 0) [] (letters "cut\n"))
+    ≡ runText input
+unfolding runText callAnswers cutOf linesFrom
+run-text input {end} ends = split (eqb (loadedOf input .number) 0)
+  where
+    split : (b : Bool)
+        → loadLine (loadedOf input .number)
+        ++ (linesFrom 1 (pick b (answersFrom (loadedOf input .machine) (callsOf (callBytes input))) [])
+        ++ pick (eqb (pick b (length input - end) 0 % 6) 0) [] (letters "cut\n"))
+        ≡ loadLine (loadedOf input .number)
+        ++ pick b (linesFrom 1 (pick b (answersFrom (loadedOf input .machine) (callsOf (callBytes input))) [])
+        ++ pick (eqb (length (callBytes input) % 6) 0) [] (letters "cut\n")) []
+    split true = rw (bytes-left input [] ends)
+    split false = refl

@@ -1,0 +1,82 @@
+-- `text::put_lines` meets its contract. The loop's invariant: the lines of the answers that are left, put from here on, give the text that is
+-- promised, and there is room for them. The measure is how many are left.
+use Prim.Native.Nat.{_+_, _*_, _-_, _≤_}
+use mathlib.Core.Path.{_≡_, refl, _∙_}
+use mathlib.Core.List.{[]}
+use native.Mathlib.Omega.{arith}
+use lib.ListN.{length, getD, drop, drop-of-length-le}
+use lib.Seq.{sets}
+use Rattle.text.specs.Text.{linesFrom}
+use Rattle.text.proofs.Puts.{line-most, put-long, turn-line}
+use Rattle.text.proofs.put_lines.Statement.{statement}
+use Rattle.text.proofs.put_lines.Tie as tie
+
+abbrev Inv-loop : tie.InvT-loop
+Inv-loop answers out₀ at to₀ i₀ out to i =
+    let left = linesFrom i (drop i answers) in
+    let all = linesFrom 1 (drop 1 answers) in
+    (length out ≡ length out₀)
+    × (to + 12 * (length answers - i) ≤ length out)
+    × (sets out to left ≡ sets out₀ at all)
+    × (to + length left ≡ at + length all)
+
+abbrev μ-loop : tie.MeasureT-loop
+μ-loop answers out₀ at to₀ i₀ out to i = length answers - i
+
+loop-holds : tie.Need-loop-holds Inv-loop μ-loop
+loop-holds c = (refl, omega arith, refl, refl)
+
+cast-put-line : tie.Need-cast-put-line Inv-loop μ-loop
+cast-put-line c = omega arith
+
+shared-slice-read-put-line : tie.Need-shared-slice-read-put-line Inv-loop μ-loop
+shared-slice-read-put-line c = omega arith
+
+put-line-requires : tie.Need-put-line-requires Inv-loop μ-loop
+put-line-requires c κs = omega arith
+
+add-i : tie.Need-add-i Inv-loop μ-loop
+add-i c = omega arith
+
+loop-less : tie.Need-loop-less Inv-loop μ-loop
+loop-less c = omega arith
+
+loop-again : tie.Need-loop-again Inv-loop μ-loop
+loop-again c =
+    let l = c .before .before .before .before .before .before .loop in
+    let answers = c .before .before .before .before .before .before .before .before .before .args .answers .now in
+    let line = c .before .before .put-line .ensures in
+    let most = line-most (l .i) (getD answers (l .i) 0) in
+    let turn = turn-line answers (l .i) (omega arith) line in (
+      put-long line ∙ l .inv .0,
+      omega (arith, line .next, put-long line, most, l .inv .1),
+      turn .0 ∙ l .inv .2,
+      turn .1 ∙ l .inv .3,
+    )
+
+same-length : tie.Need-same-length Inv-loop μ-loop
+same-length c = c .before .loop .inv .0
+
+returns : tie.Need-returns Inv-loop μ-loop
+unfolding linesFrom
+returns c =
+    let l = c .before .loop in
+    let answers = c .before .before .before .before .args .answers .now in
+    let left : drop (l .i) answers ≡ [] = drop-of-length-le answers {i = l .i} (omega arith) in
+    record { stored = rw left at (l .inv .2); next = omega (arith, rw left at (l .inv .3)) }
+
+pub put-lines-spec : {M : Type 1} → statement M
+put-lines-spec =
+    tie.close
+    (tie.spec
+    Inv-loop
+    μ-loop
+    loop-holds
+    cast-put-line
+    shared-slice-read-put-line
+    put-line-requires
+    add-i
+    loop-less
+    loop-again
+    same-length
+    returns)

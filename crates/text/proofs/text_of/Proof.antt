@@ -1,0 +1,54 @@
+-- `text::text_of` meets its contract: the tests on the buffer and on the input say which text it is.
+use borrow.Author.Tests.{le-leb, lt-leb, lt-ltb, le-ltb}
+use lib.ListN.{length}
+use Rattle.text.specs.Text.{printed, textOf}
+use Rattle.text.proofs.Puts.{put-none}
+use borrow.Author.Needs.{needs}
+use Rattle.text.proofs.text_of.Statement.{statement}
+use Rattle.text.proofs.text_of.Tie as tie
+
+returns : tie.Need-returns
+unfolding printed
+returns c =
+    let out = c .before .before .before .args .out .now in
+    rw (lt-leb 100000 (length out) (c .if1 .taken)) (put-none out 0)
+
+slice-aggregate-put-bytes : tie.Need-slice-aggregate-put-bytes
+slice-aggregate-put-bytes c = search needs
+
+put-bytes-requires : tie.Need-put-bytes-requires
+put-bytes-requires c κs = search needs
+
+same-length : tie.Need-same-length
+same-length c = search needs
+
+returns-2 : tie.Need-returns-2
+unfolding printed textOf
+returns-2 c =
+    let a = c .before .before .before .before .before .before .before .before .before .args in
+    rw (le-leb 100000 (length (a .out .now)) (c .before .before .before .before .before .before .if1 .left), lt-ltb 32768 (length (a .input .now)) (c .before .before .before .before .before .if2 .taken)) (c .before .before .put-bytes .ensures)
+
+put-run-requires : tie.Need-put-run-requires
+put-run-requires c κs = search needs
+
+same-length-2 : tie.Need-same-length-2
+same-length-2 c = search needs
+
+returns-3 : tie.Need-returns-3
+unfolding printed textOf
+returns-3 c =
+    let a = c .before .before .before .before .before .before .before .before .args in
+    rw (le-leb 100000 (length (a .out .now)) (c .before .before .before .before .before .if1 .left), le-ltb 32768 (length (a .input .now)) (c .before .before .before .before .if2 .left)) (c .before .before .put-run .ensures)
+
+pub text-of-spec : {M : Type 1} → statement M
+text-of-spec =
+    tie.close
+    (tie.spec
+    returns
+    slice-aggregate-put-bytes
+    put-bytes-requires
+    same-length
+    returns-2
+    put-run-requires
+    same-length-2
+    returns-3)
