@@ -3,7 +3,7 @@ use Prim.Native.Nat.{ℕ, _-_, _*_, _≤_, _<_}
 use mathlib.Core.Path.{_≡_, refl, sym, _∙_}
 use mathlib.Core.Bool.{Bool, true, false, not, _&&_, _||_, true≢false}
 use mathlib.Core.List.{List, [], _∷_}
-use borrow.Author.Tests.{eqb-true, eqb-false, ne-eqb, leb-true, ltb-true, not-false}
+use borrow.Author.Tests.{eqb-true, eqb-false, ne-eqb, leb-true, ltb-true, lt-ltb, not-false}
 use native.Mathlib.Omega.{arith}
 use lib.Bits.{bitAnd}
 use lib.Dec.{leb, ltb, eqb}
@@ -14,7 +14,7 @@ use Rattle.rules.specs.Refusals.{Check, _⇒_, first, pick}
 use Rattle.rules.specs.declared.registers.Mode.{Mode}
 use Rattle.machine.specs.Machine.{isSound, memorySize, fieldOf, placeOf, noMode, noProgram}
 use Rattle.machine.specs.Calls.{callOf, checksOf, accessChecks, commandChecks, effectOf, entered, returned, switched, inPrivilegedMode, inUserMode, isRight, modeOf, numberOf, pageOf, after, violated}
-use Rattle.machine.specs.Listed.{isIn, listed, ownNumbers}
+use Rattle.machine.specs.Listed.{isIn, listed, ownNumbers, soundNumbers}
 use Rattle.machine.specs.declared.record.Machine.{Machine}
 use Rattle.machine.specs.declared.record.Page.{Page}
 use Rattle.machine.specs.declared.record.Domain.{Domain}
@@ -114,6 +114,37 @@ one-exactly m call = split (isSound m)
     split : (b : Bool) → eqb (pick (not b) 1 (first (checksOf m call))) 1 ≡ not b
     split true = other-number (first (checksOf m call)) 1 (0 ∷ ownNumbers call) (own-number m call) (no-one call)
     split false = refl
+
+switch-given : (user notone badprogram : Bool)
+    → isIn (first ((user ⇒ 7) ∷ (false ⇒ 10) ∷ (notone ⇒ 15) ∷ (badprogram ⇒ 16) ∷ [])) soundNumbers ≡ true
+switch-given true notone badprogram = refl
+switch-given false true badprogram = refl
+switch-given false false true = refl
+switch-given false false false = refl
+
+-- "10 if the current program has no entry in the table": a sound machine's has
+checks-given : (m : Machine) (call : Call) → isSound m ≡ true → isIn (first (checksOf m call)) soundNumbers ≡ true
+unfolding checksOf commandChecks
+checks-given m (Access right address) s =
+    first-within soundNumbers (checksOf m (Access right address))
+    (access-either (λ checks. within soundNumbers checks ≡ true) m right address (λ b₂ b₃ b₈ b₉. (refl, refl)))
+checks-given m (Grant right page d) s = first-within soundNumbers (checksOf m (Grant right page d)) refl
+checks-given m (Revoke right page d) s = first-within soundNumbers (checksOf m (Revoke right page d)) refl
+checks-given m (SetMask bits) s = first-within soundNumbers (checksOf m (SetMask bits)) refl
+checks-given m Enter s = first-within soundNumbers (checksOf m Enter) refl
+checks-given m Return s = first-within soundNumbers (checksOf m Return) refl
+checks-given m (Switch program) s =
+    rw (lt-ltb (m .current) (m .programs) (sound-facts m s .current-below))
+    (switch-given (inUserMode m) (not (eqb (m .depth) 1)) (not (ltb program (m .programs))))
+checks-given m (StoreField right page bits) s = first-within soundNumbers (checksOf m (StoreField right page bits)) refl
+checks-given m (StoreContext bits) s = first-within soundNumbers (checksOf m (StoreContext bits)) refl
+checks-given m (StoreMask bits) s = first-within soundNumbers (checksOf m (StoreMask bits)) refl
+checks-given m (StoreMode mode) s = first-within soundNumbers (checksOf m (StoreMode mode)) refl
+
+-- no call on a sound machine is answered by 1 or by 10
+pub sound-number : (m : Machine) (call : Call) → isSound m ≡ true → isIn (callOf m call .number) soundNumbers ≡ true
+unfolding callOf
+sound-number m call s = rw s (checks-given m call s)
 
 -- "A refusal hands the machine back unchanged, save that a violation sets the pending interrupt."
 pub refusal-unchanged : (m : Machine) (call : Call) → (callOf m call .number ≡ 0 → ⊥)

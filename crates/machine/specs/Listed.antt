@@ -28,3 +28,9 @@ ownNumbers (StoreMode mode) = 17 ∷ 7 ∷ []
 -- the numbers that document 01 lists for each call
 abbrev pub listed : Call → List ℕ
 listed call = 0 ∷ 1 ∷ ownNumbers call
+
+-- the numbers of calls on a sound machine: 1 is for other machines, and 10 is not among them, since the current program of a sound machine
+-- is below the program count
+abbrev pub soundNumbers : List ℕ
+soundNumbers =
+    0 ∷ 2 ∷ 3 ∷ 4 ∷ 5 ∷ 6 ∷ 7 ∷ 8 ∷ 9 ∷ 11 ∷ 12 ∷ 13 ∷ 14 ∷ 15 ∷ 16 ∷ 17 ∷ []

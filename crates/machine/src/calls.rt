@@ -143,8 +143,8 @@ impl Machine {
         let at = place(right, page.0 as u32);
         let field = read_field(fields, at);
         let number = self.change_number(right, page, domain, field);
-        let bits = changed_bits(granting, field, domain.0);
-        write_field(fields, at, chosen(number == 0, bits, field));
+        let changed = changed_bits(granting, field, domain.0);
+        write_field(fields, at, chosen(number == 0, changed, field));
         number
     }
 

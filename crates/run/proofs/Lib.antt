@@ -1,4 +1,5 @@
 mod Parts
 mod Steps
 pub mod Sent
+mod Given
 pub mod Examples

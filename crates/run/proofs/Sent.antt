@@ -72,3 +72,12 @@ module _ (input entry : List ℕ) {end : ℕ} (ends : end ≡ min (2 + wordAt in
   pub stored-one : (loadedOf input .number ≡ 0 → ⊥) → set entry 0 (loadedOf input .number) ≡ sets entry 0 (answersOf input)
   unfolding callAnswers
   stored-one refused = rw (ne-eqb (loadedOf input .number) 0 refused)
+
+-- room for the answers of an input
+pub answers-most : (input : List ℕ) → length (answersOf input) ≤ 1 + length input / 6
+answers-most input =
+    rw (answers-count input [] {end = min (2 + wordAt input 0) (length input)} refl) (split (eqb (loadedOf input .number) 0))
+  where
+    split : (b : Bool) → pick b (1 + (length input - min (2 + wordAt input 0) (length input)) / 6) 1 ≤ 1 + length input / 6
+    split true = omega arith
+    split false = omega arith

@@ -4,16 +4,16 @@ use mathlib.Core.Path.{_≡_, refl, ap, sym, _∙_}
 use mathlib.Core.Bool.{Bool, true, false}
 use mathlib.Core.List.{List, [], _∷_, _++_, append-nil}
 use native.Mathlib.Omega.{arith}
-use borrow.Author.Tests.{le-ltb, le-leb}
+use borrow.Author.Tests.{le-ltb, le-leb, ltb-false}
 use lib.Dec.{eqb}
 use lib.ListN.{length, getD, take, drop, length-append}
 use lib.Seq.{take-append-seam}
 use Rattle.rules.specs.Refusals.{pick}
 use Rattle.image.specs.Bytes.{wordAt}
 use Rattle.run.specs.Records.{callsOf}
-use Rattle.run.specs.Run.{answersFrom, answersOf, callAnswers, callBytes, loadedOf, sent}
-use Rattle.run.proofs.Sent.{answers-count, bytes-left}
-use Rattle.text.specs.Text.{letters, cutOf, linesFrom, loadLine, runText}
+use Rattle.run.specs.Run.{answersFrom, answersOf, callAnswers, callBytes, isLong, loadedOf, sent}
+use Rattle.run.proofs.Sent.{answers-most, bytes-left}
+use Rattle.text.specs.Text.{letters, cutOf, linesFrom, loadLine, runText, textOf}
 use Rattle.text.proofs.Puts.{decimal-most, line-most}
 
 pub load-most : (number : ℕ) → length (loadLine number) ≤ 11
@@ -26,19 +26,14 @@ lines-most i [] = omega arith
 lines-most i (answer ∷ rest) =
     simp length-append (omega (arith, line-most i answer, lines-most (i + 1) rest))
 
--- an input of at most 32,768 bytes has room for its answers in 5,462
-pub answers-most : (input : List ℕ) → length input ≤ 32768 → length (answersOf input) ≤ 5462
-answers-most input within =
-    rw (answers-count input [] {end = min (2 + wordAt input 0) (length input)} refl) (split (eqb (loadedOf input .number) 0))
-  where
-    split : (b : Bool) → pick b (1 + (length input - min (2 + wordAt input 0) (length input)) / 6) 1 ≤ 5462
-    split true = omega arith
-    split false = omega arith
+-- an input of at most 32,768 bytes has at most 5,462 answers
+pub answers-fit : (input : List ℕ) → length input ≤ 32768 → length (answersOf input) ≤ 5462
+answers-fit input within = omega (arith, answers-most input, within)
 
 -- so all of them are sent to a buffer of that size
 pub all-sent : (input : List ℕ) → length input ≤ 32768 → sent input 5462 ≡ answersOf input
 unfolding sent
-all-sent input within = rw (le-ltb 32768 (length input) within, le-leb (length (answersOf input)) 5462 (answers-most input within))
+all-sent input within = rw (le-ltb 32768 (length input) within, le-leb (length (answersOf input)) 5462 (answers-fit input within))
 
 -- what the bench says of such a buffer: its front is the answers, the load's first
 pub front : (input entry : List ℕ) {exit : List ℕ} {count : ℕ} → length input ≤ 32768 → length entry ≡ 5462
@@ -68,3 +63,28 @@ run-text input {end} ends = split (eqb (loadedOf input .number) 0)
         ++ pick (eqb (length (callBytes input) % 6) 0) [] (letters "cut\n")) []
     split true = rw (bytes-left input [] ends)
     split false = refl
+
+-- every text is shorter than the buffer that `text_of` asks for
+run-most : (input : List ℕ) → length input ≤ 32768 → length (runText input) ≤ 100000
+unfolding runText cutOf
+run-most input within =
+    simp length-append (omega (arith, load-most (loadedOf input .number), rest (eqb (loadedOf input .number) 0)))
+  where
+    word : (b : Bool) → length (pick b [] (letters "cut\n")) ≤ 4
+    word true = omega arith
+    word false = omega arith
+
+    rest : (b : Bool)
+        → length (pick b (linesFrom 1 (callAnswers input) ++ pick (eqb (length (callBytes input) % 6) 0) [] (letters "cut\n")) []) ≤ 65536
+    rest true =
+        simp length-append
+        (omega (arith, lines-most 1 (callAnswers input), answers-fit input within, word (eqb (length (callBytes input) % 6) 0)))
+    rest false = omega arith
+
+pub text-fits : (input : List ℕ) → length (textOf input) ≤ 100000
+unfolding textOf
+text-fits input = split (isLong input) refl
+  where
+    split : (b : Bool) → isLong input ≡ b → length (pick b (letters "long\n") (runText input)) ≤ 100000
+    split true e = omega arith
+    split false e = run-most input (ltb-false 32768 (length input) e)

@@ -5,7 +5,7 @@ use native.Mathlib.Omega.{arith}
 use lib.ListN.{length, getD, take, drop, replicate, length-drop, length-replicate}
 use Rattle.run.specs.Run.{answersOf, loadedOf}
 use Rattle.text.proofs.Puts.{put-put, put-long}
-use Rattle.text.proofs.Printed.{load-most, lines-most, answers-most, front, run-text}
+use Rattle.text.proofs.Printed.{load-most, lines-most, answers-fit, front, run-text}
 use borrow.Author.Needs.{needs}
 use Rattle.text.proofs.put_run.Statement.{statement}
 use Rattle.text.proofs.put_run.Tie as tie
@@ -30,7 +30,7 @@ put-load-requires : tie.Need-put-load-requires
 put-load-requires c κs = search needs
 
 array-share-prefix-answers : tie.Need-array-share-prefix-answers
-array-share-prefix-answers c = omega (arith, answered (c .before .before .before .before .before) .0, answers-most (c .before .before .before .before .before .before .before .before .before .args .input .now) (c .before .before .before .before .before .before .before .before .before .pre .0))
+array-share-prefix-answers c = omega (arith, answered (c .before .before .before .before .before) .0, answers-fit (c .before .before .before .before .before .before .before .before .before .args .input .now) (c .before .before .before .before .before .before .before .before .before .pre .0))
 
 slice-aggregate-put-lines : tie.Need-slice-aggregate-put-lines
 slice-aggregate-put-lines c = let sent = answered (c .before .before .before .before .before .before) in sent .0 ∙ sym (ap length (sent .1))
@@ -39,7 +39,7 @@ put-lines-requires : tie.Need-put-lines-requires
 put-lines-requires c κs =
     let start = c .before .before .before .before .before .before .before .before .before .before .before in
     let load = c .before .before .before .before .put-load .ensures in
-    let most = answers-most (start .args .input .now) (start .pre .0) in
+    let most = answers-fit (start .args .input .now) (start .pre .0) in
     rw (answered (c .before .before .before .before .before .before .before) .1)
     (omega (arith, most), omega (arith, most, load .next, put-long load, load-most (getD (c .before .before .before .before .before .before .before .bench-run .last .1 .0) 0 0), start .pre .1))
 
@@ -59,7 +59,7 @@ put-cut-requires c κs =
     let lines = c .before .before .before .before .before .put-lines .ensures in
     let exit = c .before .before .before .before .before .before .before .before .before .before .before .before .before .bench-run .last .1 .0 in
     let answers = take (c .before .before .before .before .before .before .before .before .before .before .before .before .before .bench-run .result) exit in
-    let most = answers-most (start .args .input .now) (start .pre .0) in
+    let most = answers-fit (start .args .input .now) (start .pre .0) in
     omega (arith, load .next, put-long load, load-most (getD exit 0 0), lines .next, put-long lines, lines-most 1 (drop 1 answers), length-drop 1 answers, ap length (answered (c .before .before .before .before .before .before .before .before .before .before .before .before .before) .1), most, start .pre .1)
 
 same-length : tie.Need-same-length

@@ -18,7 +18,8 @@ or-where-requires c κs = search needs
 
 returns : tie.Need-returns
 unfolding maskedOf
-returns c = cc
+returns c =
+    rw (c .or-where .ensures, c .before .with-mask .ensures, c .before .before .mask-number .ensures, c .before .before .before .privileged .ensures)
 
 pub replace-mask-spec : {M : Type 1} → statement M
 replace-mask-spec =

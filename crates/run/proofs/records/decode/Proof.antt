@@ -1,3 +1,5 @@
+-- `run::records::decode` meets its contract: its two words are read, then the call of the kind.
+use mathlib.Core.Path.{_∙_}
 use borrow.Author.Needs.{needs}
 use Rattle.run.proofs.records.decode.Statement.{statement}
 use Rattle.run.proofs.records.decode.Tie as tie
@@ -45,7 +47,7 @@ call-of-kind-requires : tie.Need-call-of-kind-requires
 call-of-kind-requires c κs = search needs
 
 returns : tie.Need-returns
-returns c = cc
+returns c = c .call-of-kind .ensures ∙ rw (c .before .word-of2 .ensures, c .before .before .before .before .word-of .ensures)
 
 pub decode-spec : {M : Type 1} → statement M
 decode-spec =
