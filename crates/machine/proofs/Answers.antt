@@ -1,13 +1,13 @@
 -- The shape of an answer: from a call's number and what the code changed to `callOf`, for each kind of change.
-use Prim.Native.Nat.{ℕ, _-_, _≤_, _<_}
-use mathlib.Core.Path.{_≡_, refl, ap, sym, _∙_}
+use Prim.Native.Nat.{ℕ, _-_, _<_}
+use mathlib.Core.Path.{_≡_, refl, ap, _∙_}
 use mathlib.Core.Bool.{Bool, true, false, not, _&&_}
 use mathlib.Core.List.{List, [], _∷_}
 use borrow.Author.Tests.{eqb-true, eqb-false, ne-eqb, ltb-true, not-true, not-false}
 use native.Mathlib.Omega.{arith}
 use lib.Dec.{eqb, ltb}
-use lib.ListN.{length, getD, set, List·getD-eq-default}
-use lib.Seq.{set-getD, set-out}
+use lib.ListN.{getD, set}
+use lib.Seq.{set-getD}
 use Rattle.rules.specs.Registers.{withPending}
 use Rattle.rules.specs.Domains.{prevailing, withBit, withoutBit}
 use Rattle.rules.specs.Refusals.{Check, _⇒_, first, pick}
@@ -119,13 +119,6 @@ module _ (m : Machine) (call : Call) where
 stored : (l : List ℕ) (at : ℕ) (b : Bool) (new : ℕ) → set l at (pick b new (getD l at 0)) ≡ pick b (set l at new) l
 stored l at true new = refl
 stored l at false new = set-getD l at 0
-
--- past the end of the fields nothing is read, and nothing is stored
-pub past-read : (l : List ℕ) {n at : ℕ} → length l ≡ n → n ≤ at → 0 ≡ getD l at 0
-past-read l {n} {at} long h = sym (List·getD-eq-default l 0 (rw long h))
-
-pub past-store : (l : List ℕ) {n at : ℕ} (bits : ℕ) → length l ≡ n → n ≤ at → l ≡ set l at bits
-past-store l {n} {at} bits long h = sym (set-out l at bits (rw long h))
 
 -- a call that stores a field where it is accepted, from the field that it read
 pub store-answered : (m : Machine) (call : Call) {n : ℕ} {fields : List ℕ} {field bits : ℕ} (at new : ℕ)

@@ -5,9 +5,9 @@ use Prim.Native.Nat.{ℕ, zero, suc, _≤_, _<_}
 use mathlib.Core.Path.{_≡_, refl, sym, ap, _∙_}
 use mathlib.Core.Bool.{Bool, true, false, not, _&&_}
 use mathlib.Core.List.{List, [], _∷_, map}
-use borrow.Author.Tests.{eqb-true, eqb-false}
+use borrow.Author.Tests.{eqb-false}
 use lib.Bits.{bitAnd}
-use lib.Dec.{eqb, leb}
+use lib.Dec.{leb}
 use lib.ListN.{getD, set, List·getD-map}
 use lib.Seq.{map-set-same}
 use Rattle.rules.specs.Registers.{localContext, withMask, withPending}
@@ -17,7 +17,7 @@ use Rattle.rules.specs.declared.domains.Prevailing.{Prevailing}
 use Rattle.rules.specs.declared.domains.Prevailing.the-variants.{At}
 use Rattle.rules.proofs.Bits.{and-assoc, unseen, seen-alike, local-held, unmoved}
 use Rattle.machine.specs.Machine.{isSound, memorySize, placeOf, fieldOf, withFields, withRegisters}
-use Rattle.machine.specs.Calls.{callOf, checksOf, accessChecks, commandChecks, effectOf, isRight, inPrivilegedMode, numberOf, pageOf, after, violated}
+use Rattle.machine.specs.Calls.{callOf, checksOf, accessChecks, commandChecks, effectOf, isRight, inPrivilegedMode, numberOf, pageOf, violated}
 use Rattle.machine.specs.declared.record.Machine.{Machine}
 use Rattle.machine.specs.declared.record.Page.{Page}
 use Rattle.machine.specs.declared.record.Domain.{Domain}

@@ -5,7 +5,7 @@ use mathlib.Core.List.{List, [], _∷_}
 use lib.Bits.{bitAnd}
 use lib.Dec.{leb, ltb, eqb}
 use lib.ListN.{getD, set}
-use Rattle.rules.specs.Registers.{isPrivileged, localContext, withContext, withMask, withMode, withPending}
+use Rattle.rules.specs.Registers.{isPrivileged, localContext, maskChecks, withContext, withMask, withMode, withPending}
 use Rattle.rules.specs.Domains.{isDomain, withBit, withoutBit, prevailing, isOutside, isNotLower}
 use Rattle.rules.specs.Refusals.{Check, _⇒_, first, pick}
 use Rattle.rules.specs.declared.registers.Mode.{Mode}
@@ -64,7 +64,7 @@ checksOf m (Access right address) = accessChecks m right address (fieldOf m righ
 checksOf m (Grant right page s) = commandChecks m right page s (prevailing (fieldOf m right (page .0)))
 checksOf m (Revoke right page s) = commandChecks m right page s (prevailing (fieldOf m right (page .0)))
 -- "Mask command (16 bits). 1; 6 in privileged mode; 8."
-checksOf m (SetMask bits) = (inPrivilegedMode m ⇒ 6) ∷ (m .registers .pending ⇒ 8) ∷ []
+checksOf m (SetMask bits) = maskChecks (m .registers)
 -- "Interrupt entry. 1; 13 at depth 8."
 checksOf m Enter = (eqb (m .depth) 8 ⇒ 13) ∷ []
 -- "Return. 1; 7 in user mode; 14 at depth 0."

@@ -1,10 +1,10 @@
 -- The live registers (document 01, "The machine").
 use Prim.Native.Nat.{ℕ}
 use mathlib.Core.Bool.{Bool, true, false}
-use mathlib.Core.List.{[], _∷_}
+use mathlib.Core.List.{List, [], _∷_}
 use lib.Bits.{bitAnd}
 use lib.Dec.{eqb}
-use Rattle.rules.specs.Refusals.{first, pick, _⇒_}
+use Rattle.rules.specs.Refusals.{Check, first, pick, _⇒_}
 use Rattle.rules.specs.declared.registers.Mode.{Mode}
 use Rattle.rules.specs.declared.registers.Mode.the-variants.{User, Privileged}
 use Rattle.rules.specs.declared.registers.Registers.{Registers}
@@ -32,9 +32,13 @@ withMode mode r = record { context = r .context; mask = r .mask; mode = mode; pe
 abbrev pub withPending : Bool → Registers → Registers
 withPending pending r = record { context = r .context; mask = r .mask; mode = r .mode; pending = pending }
 
--- "lends it to the mask command, which .. answers as below without the check for 1": "6 in privileged mode; 8."
+-- "Mask command (16 bits). 1; 6 in privileged mode; 8.": its conditions after the one for 1
+abbrev pub maskChecks : Registers → List Check
+maskChecks r = (isPrivileged (r .mode) ⇒ 6) ∷ (r .pending ⇒ 8) ∷ []
+
+-- "lends it to the mask command, which .. answers as below without the check for 1"
 abbrev pub maskNumber : Registers → ℕ
-maskNumber r = first ((isPrivileged (r .mode) ⇒ 6) ∷ (r .pending ⇒ 8) ∷ [])
+maskNumber r = first (maskChecks r)
 
 -- "which alters it there": "Then the mask is replaced, including bits outside the global context."
 unfoldable pub maskedOf : Registers → ℕ → Masked

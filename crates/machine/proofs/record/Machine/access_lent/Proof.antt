@@ -5,8 +5,7 @@ use mathlib.Core.Bool.{not}
 use lib.Dec.{leb}
 use Rattle.rules.specs.Refusals.{first, pick}
 use Rattle.machine.specs.Machine.{isSound, fieldOf, withFields}
-use Rattle.machine.specs.Calls.{accessChecks, apart, checksOf, numberOf, pageOf}
-use Rattle.machine.specs.declared.record.Call.the-variants.{Access}
+use Rattle.machine.specs.Calls.{accessChecks, apart, checksOf, pageOf}
 use Rattle.machine.proofs.Sound.{where-sound}
 use Rattle.machine.proofs.Answers.{access-answered}
 use borrow.Author.Needs.{needs}
