@@ -8,7 +8,7 @@ use borrow.Author.Tests.{lt-ltb}
 use lib.ListN.{length, getD, set}
 use native.Mathlib.Omega.{arith}
 use Rattle.rules.specs.declared.registers.Registers.{Registers}
-use Rattle.machine.specs.Machine.{isSound, noMode, noProgram, withStack}
+use Rattle.machine.specs.Machine.{isSound, noMode, noProgram, withStack, withRegisters, withPrograms}
 use Rattle.machine.specs.Calls.{callOf, checksOf, effectOf, after, entered, switched, returned}
 use Rattle.machine.specs.declared.record.Machine.{Machine}
 use Rattle.machine.specs.declared.record.Saved.{Saved}
@@ -30,17 +30,8 @@ registersOf entry = record { context = entry .context; mask = entry .mask; mode 
 -- the machine on which a program's turn begins
 abbrev pub turned : Machine → ℕ → Machine
 turned m program =
-    record {
-      pages = m .pages;
-      exponent = m .exponent;
-      fields = m .fields;
-      registers = registersOf (getD (home m) program noProgram);
-      depth = 0;
-      saved = set (m .saved) 0 noMode;
-      programs = m .programs;
-      current = program;
-      table = home m;
-    }
+    withPrograms program (home m)
+    (withStack 0 (set (m .saved) 0 noMode) (withRegisters (registersOf (getD (home m) program noProgram)) m))
 
 pub record Turned (m : Machine) (program : ℕ) : Type 0 where
   pub entry : callOf m Enter ≡ record { number = 0; machine = entered m }

@@ -1,5 +1,7 @@
 // The eleven calls (document 01, "Calls and what each refuses"). Each method has one shape: an array is indexed only in a
-// local, the number comes first, what an accepted call changes is chosen by it, and the answer is made once at the end.
+// local or lent, the number comes first, what an accepted call changes is chosen by it, and the answer is made once at the
+// end. A call that looks at fields does so on lent ones, so that a loop over calls need not carry them in its machine; the
+// method by value is that call on the machine's own fields.
 use crate::record::Answered;
 use crate::record::Domain;
 use crate::record::Machine;
@@ -87,7 +89,7 @@ impl Machine {
         checked(!self.sound(), number)
     }
 
-    // The access on lent fields: the machine keeps its own.
+    // The access on lent fields. The machine that comes back keeps its own.
     pub fn access_lent(mut self, fields: &[u16], right: u8, address: u32) -> Answered
         ensures { λ r. ⌜ r ≡ apart (self .fields) (callOf (withFields (now (fields .entry)) self) (Call.Access right address)) ⌝ }
     {
