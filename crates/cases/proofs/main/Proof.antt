@@ -48,7 +48,7 @@ returns : tie.Need-returns Inv-loop μ-loop
 returns c = search needs
 
 add-end : tie.Need-add-end Inv-loop μ-loop
-add-end c = omega (arith, c .if1 .left, c .before .before .before .loop-test .taken, c .before .before .before .before .loop .inv .0, c .before .before .before .before .loop .inv .1, c .before .before .before .before .loop .inv .2, c .before .before .before .before .loop .inv .3)
+add-end c = omega (arith, c .if1 .left, c .before .before .before .before .loop .inv .1)
 
 sub-run-case : tie.Need-sub-run-case Inv-loop μ-loop
 sub-run-case c = search needs
@@ -57,33 +57,32 @@ part-run-case-start : tie.Need-part-run-case-start Inv-loop μ-loop
 part-run-case-start c = search needs
 
 part-run-case-end : tie.Need-part-run-case-end Inv-loop μ-loop
-part-run-case-end c = omega (arith, c .before .if1 .left, c .before .before .before .before .loop-test .taken, c .before .before .before .before .before .loop .inv .0, c .before .before .before .before .before .loop .inv .1, c .before .before .before .before .before .loop .inv .2, c .before .before .before .before .before .loop .inv .3)
+part-run-case-end c = omega (arith, c .before .if1 .left, c .before .before .before .before .loop-test .taken, c .before .before .before .before .before .loop .inv .1, c .before .before .before .before .before .loop .inv .3)
 
 run-case-requires : tie.Need-run-case-requires Inv-loop μ-loop
 run-case-requires c κs = search needs
 
+-- a case is as long as it says, and the next one starts within what was read
 ran : (c : tie.After-run-case Inv-loop μ-loop) → c .run-case .result ≡ c .before .before .before .before .size-at .result
-ran c = c .run-case .ensures ∙ simp (length-take, length-drop) (omega (arith, c .before .before .before .if1 .left, c .before .before .before .before .before .before .loop-test .taken, c .before .before .before .before .before .before .before .loop .inv .0, c .before .before .before .before .before .before .before .loop .inv .1, c .before .before .before .before .before .before .before .loop .inv .2, c .before .before .before .before .before .before .before .loop .inv .3))
+ran c = c .run-case .ensures ∙ simp (length-take, length-drop) (omega (arith, c .before .before .before .if1 .left, c .before .before .before .before .before .before .loop-test .taken, c .before .before .before .before .before .before .before .loop .inv .1, c .before .before .before .before .before .before .before .loop .inv .3))
+
+next : (c : tie.After-run-case Inv-loop μ-loop) → c .before .before .before .before .before .before .before .loop .at + 4 + c .run-case .result ≤ c .before .before .before .before .before .before .before .before .before .read-full .result
+next c = omega (arith, ran c, c .before .before .before .if1 .left, c .before .before .before .before .before .before .loop-test .taken)
 
 add-at : tie.Need-add-at Inv-loop μ-loop
-add-at c = omega (arith, ran c, c .before .before .before .if1 .left, c .before .before .before .before .before .before .loop-test .taken, c .before .before .before .before .before .before .before .loop .inv .0, c .before .before .before .before .before .before .before .loop .inv .1, c .before .before .before .before .before .before .before .loop .inv .2, c .before .before .before .before .before .before .before .loop .inv .3)
+add-at c = omega (arith, next c, c .before .before .before .before .before .before .before .loop .inv .1)
 
 cast-at : tie.Need-cast-at Inv-loop μ-loop
-cast-at c = omega (arith, ran c, c .before .before .before .if1 .left, c .before .before .before .before .before .before .loop-test .taken, c .before .before .before .before .before .before .before .loop .inv .0, c .before .before .before .before .before .before .before .loop .inv .1, c .before .before .before .before .before .before .before .loop .inv .2, c .before .before .before .before .before .before .before .loop .inv .3)
+cast-at c = omega (arith, next c, c .before .before .before .before .before .before .before .loop .inv .1)
 
 add-number : tie.Need-add-number Inv-loop μ-loop
-add-number c = omega (arith, ran c, c .before .before .before .if1 .left, c .before .before .before .before .before .before .loop-test .taken, c .before .before .before .before .before .before .before .loop .inv .0, c .before .before .before .before .before .before .before .loop .inv .1, c .before .before .before .before .before .before .before .loop .inv .2, c .before .before .before .before .before .before .before .loop .inv .3)
+add-number c = omega (arith, next c, c .before .before .before .before .before .before .before .loop .inv .1, c .before .before .before .before .before .before .before .loop .inv .2)
 
 loop-less : tie.Need-loop-less Inv-loop μ-loop
-loop-less c = omega (arith, ran c, c .before .before .before .if1 .left, c .before .before .before .before .before .before .loop-test .taken, c .before .before .before .before .before .before .before .loop .inv .0, c .before .before .before .before .before .before .before .loop .inv .1, c .before .before .before .before .before .before .before .loop .inv .2, c .before .before .before .before .before .before .before .loop .inv .3)
+loop-less c = omega (arith, next c)
 
 loop-again : tie.Need-loop-again Inv-loop μ-loop
-loop-again c = (
-  omega (arith, ran c, c .before .before .before .if1 .left, c .before .before .before .before .before .before .loop-test .taken, c .before .before .before .before .before .before .before .loop .inv .0, c .before .before .before .before .before .before .before .loop .inv .1, c .before .before .before .before .before .before .before .loop .inv .2, c .before .before .before .before .before .before .before .loop .inv .3),
-  c .before .before .before .before .before .before .before .loop .inv .1,
-  omega (arith, ran c, c .before .before .before .if1 .left, c .before .before .before .before .before .before .loop-test .taken, c .before .before .before .before .before .before .before .loop .inv .0, c .before .before .before .before .before .before .before .loop .inv .1, c .before .before .before .before .before .before .before .loop .inv .2, c .before .before .before .before .before .before .before .loop .inv .3),
-  c .before .before .before .before .before .before .before .loop .inv .3,
-)
+loop-again c = (omega (arith, next c), c .before .before .before .before .before .before .before .loop .inv .1, omega (arith, c .before .before .before .before .before .before .before .loop .inv .2), c .before .before .before .before .before .before .before .loop .inv .3)
 
 returns-2 : tie.Need-returns-2 Inv-loop μ-loop
 returns-2 c = search needs
