@@ -1,5 +1,5 @@
 # Builds, runs and tests the protection core. Each target says what it does while it works.
-need = @command -v $(1) >/dev/null || { echo "make: $(1) is missing: $(2)"; exit 1; }
+need = $(if $(shell command -v $(1)),,$(error $(1) is missing: $(2)))
 
 .PHONY: run test lib speed
 
@@ -21,7 +21,7 @@ test:
 lib:
 	$(call need,rt,install the Rattle toolchain)
 	@echo "building the static library of the bench .."
-	@rt staticlib run | tail -n 1
+	@mkdir -p target && rt staticlib run >target/lib.log 2>&1 || { tail -n 20 target/lib.log; exit 1; }
 	@echo "target/staticlib/librun.a, to be used with include/bench.h"
 
 speed: lib

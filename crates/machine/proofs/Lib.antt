@@ -1,6 +1,6 @@
 pub mod Sound
 pub mod Answers
-pub mod Apart
+pub mod LentFields
 pub mod Entitled
 pub mod Laws
 pub mod Readings

@@ -193,7 +193,7 @@ command-unseen m (a-mask bits) context small below =
 
 -- ---- its own program's view
 
--- two machines that a program of that context cannot tell apart by commands
+-- two machines that a program of that context cannot tell keeping by commands
 pub record Alike (context : ℕ) (m n : Machine) : Type 0 where
   pub pages : m .pages ≡ n .pages
   pub exponent : m .exponent ≡ n .exponent

@@ -156,5 +156,5 @@ abbrev pub changeCall : Bool → ℕ → Page → Domain → Call
 changeCall granting right page s = pick granting (Grant right page s) (Revoke right page s)
 
 -- what comes back of a call on lent fields, which hold the fields after it: the machine of the answer keeps its own
-abbrev pub apart : List ℕ → Answered → Answered
-apart own answer = record { number = answer .number; machine = withFields own (answer .machine) }
+abbrev pub keeping : List ℕ → Answered → Answered
+keeping own answer = record { number = answer .number; machine = withFields own (answer .machine) }

@@ -34,7 +34,7 @@ ghost use Rattle.rules.specs.Domains.{prevailing, withBit, withoutBit};
 ghost use Rattle.rules.specs.Refusals.{pick, first};
 ghost use Rattle.machine.specs.Machine.{isSound, withFields};
 ghost use Rattle.machine.specs.declared.record.Call.{Call};
-ghost use Rattle.machine.specs.Calls.{callOf, apart, changeCall, accessChecks, commandChecks, modeOf};
+ghost use Rattle.machine.specs.Calls.{callOf, keeping, changeCall, accessChecks, commandChecks, modeOf};
 
 // The new value where a call was accepted, else the old one.
 fn chosen(done: bool, new: u16, old: u16) -> u16
@@ -91,7 +91,7 @@ impl Machine {
 
     // The access on lent fields. The machine that comes back keeps its own.
     pub fn access_lent(mut self, fields: &[u16], right: u8, address: u32) -> Answered
-        ensures { λ r. ⌜ r ≡ apart (self .fields) (callOf (withFields (now (fields .entry)) self) (Call.Access right address)) ⌝ }
+        ensures { λ r. ⌜ r ≡ keeping (self .fields) (callOf (withFields (now (fields .entry)) self) (Call.Access right address)) ⌝ }
     {
         let registers = self.registers;
         let at = place(right, page_of(address, self.exponent));

@@ -10,7 +10,7 @@ use Rattle.image.specs.Sample.{sampleBytes}
 use Rattle.machine.specs.Machine.{isSound}
 use Rattle.machine.specs.Calls.{callOf, checksOf, accessChecks, commandChecks, effectOf, entered, returned, switched, after}
 use Rattle.machine.specs.declared.record.Call.the-variants.{Access, Grant, Revoke, SetMask, Enter, Return, Switch, StoreField, StoreContext, StoreMask, StoreMode}
-use Rattle.run.specs.Records.{callOfKind, callsOf, stepOf, pageOf, domainOf}
+use Rattle.run.specs.Records.{callOfKind, callsOf, stepOf, asPage, asDomain}
 use Rattle.run.specs.Run.{answersFrom, answersOf, callAnswers}
 use Rattle.run.specs.declared.records.Decoded.the-variants.{Known, Unknown}
 
@@ -25,13 +25,13 @@ kinds-read :
     (record-of 9 (record-of 10 (record-of 11 (record-of 12 (1 ∷ 1 ∷ 2 ∷ 3 ∷ 4 ∷ []))))))))))))))
     ≡ Unknown
     ∷ Known (Access 1 0x02030405)
-    ∷ Known (Grant 1 (pageOf 0x0203) (domainOf 0x0405))
-    ∷ Known (Revoke 1 (pageOf 0x0203) (domainOf 0x0405))
+    ∷ Known (Grant 1 (asPage 0x0203) (asDomain 0x0405))
+    ∷ Known (Revoke 1 (asPage 0x0203) (asDomain 0x0405))
     ∷ Known (SetMask 0x0405)
     ∷ Known Enter
     ∷ Known Return
     ∷ Known (Switch 0x0405)
-    ∷ Known (StoreField 1 (pageOf 0x0203) 0x0405)
+    ∷ Known (StoreField 1 (asPage 0x0203) 0x0405)
     ∷ Known (StoreContext 0x0405)
     ∷ Known (StoreMask 0x0405)
     ∷ Known (StoreMode 0x0405)

@@ -12,7 +12,7 @@ use lib.ListN.{length, getD, set, drop, length-drop, List·getD-eq-default}
 use lib.Seq.{getD-drop, drop-drop, sets}
 use Rattle.image.specs.Bytes.{wordOf}
 use Rattle.machine.specs.Machine.{withFields}
-use Rattle.machine.specs.Calls.{apart}
+use Rattle.machine.specs.Calls.{keeping}
 use Rattle.machine.specs.declared.record.Machine.{Machine}
 use Rattle.machine.specs.declared.record.Answered.{Answered}
 use Rattle.run.specs.Records.{kinds, callOfKind, callsOf, stepOf}
@@ -82,7 +82,7 @@ count-answers m [] = refl
 count-answers m (call ∷ rest) = let more = count-answers (stepOf m call .machine) rest in omega arith
 
 -- what a step gives back and the lent fields after it, put together, are the step on the whole machine
-pub whole : {own fields : List ℕ} {r s : Answered} → r ≡ apart own s → fields ≡ s .machine .fields
+pub whole : {own fields : List ℕ} {r s : Answered} → r ≡ keeping own s → fields ≡ s .machine .fields
     → _≡_ {A = Answered} (record { number = r .number; machine = withFields fields (r .machine) }) s
 whole e f = rw (e, f)
 

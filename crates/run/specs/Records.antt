@@ -12,11 +12,11 @@ use Rattle.machine.specs.declared.record.Call.the-variants.{Access, Grant, Revo
 use Rattle.run.specs.declared.records.Decoded.{Decoded}
 use Rattle.run.specs.declared.records.Decoded.the-variants.{Known, Unknown}
 
-abbrev pub pageOf : ℕ → Page
-pageOf a = record { 0 = a }
+abbrev pub asPage : ℕ → Page
+asPage a = record { 0 = a }
 
-abbrev pub domainOf : ℕ → Domain
-domainOf b = record { 0 = b }
+abbrev pub asDomain : ℕ → Domain
+asDomain b = record { 0 = b }
 
 -- "Kinds: 1 access, address A × 65,536 + B; 2 grant and 3 revoke, page A, domain B; 4 mask B; 5 entry; 6 return; 7 switch to B;
 -- 8 field of page A becomes B; 9 global context B; 10 mask B by the kernel; 11 mode B. Unused parts are ignored.": what stands at
@@ -25,13 +25,13 @@ abbrev pub kinds : (right a b : ℕ) → List Decoded
 kinds right a b =
     Unknown
     ∷ Known (Access right (65536 * a + b))
-    ∷ Known (Grant right (pageOf a) (domainOf b))
-    ∷ Known (Revoke right (pageOf a) (domainOf b))
+    ∷ Known (Grant right (asPage a) (asDomain b))
+    ∷ Known (Revoke right (asPage a) (asDomain b))
     ∷ Known (SetMask b)
     ∷ Known Enter
     ∷ Known Return
     ∷ Known (Switch b)
-    ∷ Known (StoreField right (pageOf a) b)
+    ∷ Known (StoreField right (asPage a) b)
     ∷ Known (StoreContext b)
     ∷ Known (StoreMask b)
     ∷ Known (StoreMode b)

@@ -10,7 +10,7 @@ ghost use Prim.Native.Nat.{_+_, _*_, _≤_};
 ghost use lib.ListN.{length, getD};
 ghost use Rattle.image.specs.Bytes.{wordOf};
 ghost use Rattle.machine.specs.Machine.{withFields};
-ghost use Rattle.machine.specs.Calls.{apart};
+ghost use Rattle.machine.specs.Calls.{keeping};
 ghost use Rattle.run.specs.Records.{callOfKind, stepOf};
 
 // A record read: one of the eleven calls, or none of them.
@@ -62,7 +62,7 @@ pub fn decode(bytes: &[u8], at: usize) -> Decoded
 // One step: the call on the machine with the lent fields, or 18 for a record that is none. The fields are lent, since a machine that
 // goes through a loop with them inside is copied at every turn; the machine that comes back keeps its own.
 pub fn step(machine: Machine, fields: &mut [u16], decoded: Decoded) -> Answered
-    ensures { λ r. ⌜ r ≡ apart (machine .fields) (stepOf (withFields (now (fields .entry)) machine) decoded) ⌝ }
+    ensures { λ r. ⌜ r ≡ keeping (machine .fields) (stepOf (withFields (now (fields .entry)) machine) decoded) ⌝ }
     ensures { λ _. ⌜ now (fields .exit) ≡ stepOf (withFields (now (fields .entry)) machine) decoded .machine .fields ⌝ }
 {
     let Decoded::Known(call) = decoded else {

@@ -2,7 +2,7 @@
 use mathlib.Core.Path.{refl}
 use mathlib.Core.Bool.{true, false}
 use Rattle.machine.specs.declared.record.Call.the-variants.{Grant, Revoke, SetMask, Enter, Return, Switch, StoreField, StoreContext, StoreMask, StoreMode}
-use Rattle.machine.proofs.Apart.{looked-aside, access-kept, lent-alone, change-alone, store-alone}
+use Rattle.machine.proofs.LentFields.{looked-aside, access-kept, lent-alone, change-alone, store-alone}
 use Rattle.run.specs.Records.{stepOf}
 use borrow.Author.Needs.{needs}
 use Rattle.run.proofs.records.step.Statement.{statement}

@@ -5,7 +5,7 @@ use mathlib.Core.Bool.{not}
 use lib.Dec.{leb}
 use Rattle.rules.specs.Refusals.{first, pick}
 use Rattle.machine.specs.Machine.{isSound, fieldOf, withFields}
-use Rattle.machine.specs.Calls.{accessChecks, apart, checksOf, pageOf}
+use Rattle.machine.specs.Calls.{accessChecks, keeping, checksOf, pageOf}
 use Rattle.machine.proofs.Sound.{where-sound}
 use Rattle.machine.proofs.Answers.{access-answered}
 use borrow.Author.Needs.{needs}
@@ -39,7 +39,7 @@ returns c =
     let page = pageOf m (a .address) in
     let guarded : c .before .before .access-at .result ≡ pick (not (isSound m)) 1 (number (pick (leb (m .exponent) 12) page 0)) =
     rw (c .before .before .access-at .ensures, c .before .before .before .read-field .ensures, c .before .before .before .before .place .ensures, c .before .before .before .before .before .page-of .ensures) in
-    ap (apart (a .self .fields))
+    ap (keeping (a .self .fields))
     (access-answered m (a .right) (a .address) (guarded ∙ where-sound m number page) (rw (c .or-where .ensures, c .before .with-pending .ensures)))
 
 pub access-lent-spec : {M : Type 1} → statement M

@@ -1,6 +1,6 @@
 -- `Machine::grant` meets its contract: the grant on its own fields, then stored back.
 use mathlib.Core.Bool.{true}
-use Rattle.machine.proofs.Apart.{change-alone}
+use Rattle.machine.proofs.LentFields.{change-alone}
 use borrow.Author.Needs.{needs}
 use Rattle.machine.proofs.record.Machine.grant.Statement.{statement}
 use Rattle.machine.proofs.record.Machine.grant.Tie as tie

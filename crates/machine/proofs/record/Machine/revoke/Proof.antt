@@ -1,6 +1,6 @@
 -- `Machine::revoke` meets its contract: the revoke on its own fields, then stored back.
 use mathlib.Core.Bool.{false}
-use Rattle.machine.proofs.Apart.{change-alone}
+use Rattle.machine.proofs.LentFields.{change-alone}
 use borrow.Author.Needs.{needs}
 use Rattle.machine.proofs.record.Machine.revoke.Statement.{statement}
 use Rattle.machine.proofs.record.Machine.revoke.Tie as tie

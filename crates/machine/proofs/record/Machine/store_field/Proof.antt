@@ -1,5 +1,5 @@
 -- `Machine::store_field` meets its contract: the store on its own fields, then stored back.
-use Rattle.machine.proofs.Apart.{store-alone}
+use Rattle.machine.proofs.LentFields.{store-alone}
 use borrow.Author.Needs.{needs}
 use Rattle.machine.proofs.record.Machine.store_field.Statement.{statement}
 use Rattle.machine.proofs.record.Machine.store_field.Tie as tie

@@ -5,7 +5,7 @@ use mathlib.Core.Path.{_≡_, refl, ap, sym, _∙_}
 use mathlib.Core.Bool.{Bool, true, false, true≢false}
 use mathlib.Core.List.{List}
 use Rattle.machine.specs.Machine.{isSound, withFields}
-use Rattle.machine.specs.Calls.{callOf, changeCall, checksOf, effectOf, entered, returned, switched, numberOf, after, apart}
+use Rattle.machine.specs.Calls.{callOf, changeCall, checksOf, effectOf, entered, returned, switched, numberOf, after, keeping}
 use Rattle.machine.specs.declared.record.Machine.{Machine}
 use Rattle.machine.specs.declared.record.Page.{Page}
 use Rattle.machine.specs.declared.record.Domain.{Domain}
@@ -15,9 +15,9 @@ use Rattle.machine.specs.declared.record.Call.the-variants.{Access, Gran
 use Rattle.machine.proofs.Answers.{avoids, after-cases, after-both, not-nine, change-avoids, change-effect}
 
 -- an access leaves the fields as they were
-pub access-apart : (m : Machine) (right address : ℕ) → apart (m .fields) (callOf m (Access right address)) ≡ callOf m (Access right address)
+pub access-keeps : (m : Machine) (right address : ℕ) → keeping (m .fields) (callOf m (Access right address)) ≡ callOf m (Access right address)
 unfolding callOf effectOf
-access-apart m right address =
+access-keeps m right address =
     let n = numberOf m (Access right address) in
     ap (λ (end : Machine). record { number = n; machine = end })
     (after-cases (λ end. withFields (m .fields) end ≡ end) n m m (λ _. refl) (λ _. refl) refl)
@@ -61,7 +61,7 @@ looksAside (StoreMode mode) = true
 module _ (lent : List ℕ) (m : Machine) where
   -- what a call on the machine with its own fields has to do with one on the machine with the lent ones
   abbrev Aside : Answered → Answered → Type 0
-  Aside own other = (own ≡ apart (m .fields) other) × (lent ≡ other .machine .fields)
+  Aside own other = (own ≡ keeping (m .fields) other) × (lent ≡ other .machine .fields)
 
   after-aside : (n : ℕ) (end : Machine) → end .fields ≡ m .fields
       → Aside (record { number = n; machine = after n m end }) (record { number = n; machine = after n (withFields lent m) (withFields lent end) })
@@ -90,8 +90,8 @@ module _ (lent : List ℕ) (m : Machine) where
       (e ∙ p .0, p .1)
 
   pub access-kept : (right address : ℕ) → lent ≡ callOf (withFields lent m) (Access right address) .machine .fields
-  access-kept right address = ap (λ (r : Answered). r .machine .fields) (access-apart (withFields lent m) right address)
+  access-kept right address = ap (λ (r : Answered). r .machine .fields) (access-keeps (withFields lent m) right address)
 
   pub lent-alone : (call : Call) {n : ℕ} → FieldsAlone (withFields lent m) call → n ≡ callOf (withFields lent m) call .number
-      → _≡_ {A = Answered} (record { number = n; machine = m }) (apart (m .fields) (callOf (withFields lent m) call))
-  lent-alone call alone e = rw e (ap (apart (m .fields)) alone)
+      → _≡_ {A = Answered} (record { number = n; machine = m }) (keeping (m .fields) (callOf (withFields lent m) call))
+  lent-alone call alone e = rw e (ap (keeping (m .fields)) alone)
