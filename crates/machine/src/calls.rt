@@ -29,12 +29,13 @@ use rules::registers::Mode;
 use rules::registers::replace_mask;
 ghost use mathlib.Core.Path.{_≡_};
 ghost use mathlib.Core.Bool.{not};
+ghost use mathlib.Core.List.{[], _∷_};
 ghost use Prim.Native.Nat.{_-_};
 ghost use Rattle.rules.specs.Domains.{prevailing, withBit, withoutBit};
-ghost use Rattle.rules.specs.Refusals.{pick, first};
+ghost use Rattle.rules.specs.Refusals.{pick, first, _⇒_};
 ghost use Rattle.machine.specs.Machine.{isSound, withFields};
 ghost use Rattle.machine.specs.declared.record.Call.{Call};
-ghost use Rattle.machine.specs.Calls.{callOf, keeping, changeCall, accessChecks, commandChecks, modeOf};
+ghost use Rattle.machine.specs.Calls.{callOf, keeping, changeCall, accessChecks, commandChecks, inUserMode, modeOf};
 
 // The new value where a call was accepted, else the old one.
 fn chosen(done: bool, new: u16, old: u16) -> u16
@@ -315,12 +316,20 @@ impl Machine {
         }
     }
 
+    // The number of the kernel's store of the global context or the mask.
+    fn register_store_number(self) -> u8
+        ensures { λ r. ⌜ r ≡ pick (not (isSound self)) 1 (first ((inUserMode self ⇒ 7) ∷ [])) ⌝ }
+    {
+        let registers = self.registers;
+        checked(!self.sound(), register_number(!registers.privileged()))
+    }
+
     // The kernel's store of the global context.
     pub fn store_context(mut self, bits: u16) -> Answered
         ensures { λ r. ⌜ r ≡ callOf self (Call.StoreContext bits) ⌝ }
     {
         let registers = self.registers;
-        let number = checked(!self.sound(), register_number(!registers.privileged()));
+        let number = self.register_store_number();
         let after = registers.or_where(number == 0, registers.with_context(bits));
         self.registers = after;
         Answered {
@@ -334,7 +343,7 @@ impl Machine {
         ensures { λ r. ⌜ r ≡ callOf self (Call.StoreMask bits) ⌝ }
     {
         let registers = self.registers;
-        let number = checked(!self.sound(), register_number(!registers.privileged()));
+        let number = self.register_store_number();
         let after = registers.or_where(number == 0, registers.with_mask(bits));
         self.registers = after;
         Answered {

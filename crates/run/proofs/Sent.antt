@@ -29,7 +29,7 @@ pub long-sends : (input entry : List ℕ) → 32768 < length input → Sends inp
 unfolding sent
 long-sends input entry h = nothing-sent input entry (rw (lt-ltb 32768 (length input) h))
 
-module _ (input entry : List ℕ) {end : ℕ} (ends : end ≡ min (2 + wordAt input 0) (length input)) where
+module _ (input : List ℕ) {end : ℕ} (ends : end ≡ min (2 + wordAt input 0) (length input)) where
   -- how many bytes the calls are read from
   pub bytes-left : length (callBytes input) ≡ length input - end
   bytes-left = rw (← calls-part input ends) (length-drop end input)
@@ -47,6 +47,7 @@ module _ (input entry : List ℕ) {end : ℕ} (ends : end ≡ min (2 + wordAt in
           omega (arith, calls, bytes-left)
       split false = refl
 
+module _ (input entry : List ℕ) {end : ℕ} (ends : end ≡ min (2 + wordAt input 0) (length input)) where
   pub short-sends : {count : ℕ} → length input ≤ 32768 → count ≡ length (answersOf input) → length entry < count
       → Sends input entry 0 entry
   unfolding sent
@@ -76,7 +77,7 @@ module _ (input entry : List ℕ) {end : ℕ} (ends : end ≡ min (2 + wordAt in
 -- room for the answers of an input
 pub answers-most : (input : List ℕ) → length (answersOf input) ≤ 1 + length input / 6
 answers-most input =
-    rw (answers-count input [] {end = min (2 + wordAt input 0) (length input)} refl) (split (eqb (loadedOf input .number) 0))
+    rw (answers-count input {end = min (2 + wordAt input 0) (length input)} refl) (split (eqb (loadedOf input .number) 0))
   where
     split : (b : Bool) → pick b (1 + (length input - min (2 + wordAt input 0) (length input)) / 6) 1 ≤ 1 + length input / 6
     split true = omega arith

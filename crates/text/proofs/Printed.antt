@@ -61,7 +61,7 @@ run-text input {end} ends = split (eqb (loadedOf input .number) 0)
         ≡ loadLine (loadedOf input .number)
         ++ pick b (linesFrom 1 (pick b (answersFrom (loadedOf input .machine) (callsOf (callBytes input))) [])
         ++ pick (eqb (length (callBytes input) % 6) 0) [] (letters "cut\n")) []
-    split true = rw (bytes-left input [] ends)
+    split true = rw (bytes-left input ends)
     split false = refl
 
 -- every text is shorter than the buffer that `text_of` asks for

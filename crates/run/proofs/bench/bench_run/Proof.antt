@@ -16,7 +16,7 @@ counted : (c : tie.After-answer-count) → c .answer-count .result ≡ length (a
 counted c =
     let a = c .before .before .before .before .before .before .args in
     c .answer-count .ensures
-    ∙ rw (c .before .load-input .ensures) (sym (answers-count (a .input .now) (a .answers .now) (c .before .before .calls-start .ensures)))
+    ∙ rw (c .before .load-input .ensures) (sym (answers-count (a .input .now) (c .before .before .calls-start .ensures)))
 
 calls-start-requires : tie.Need-calls-start-requires
 calls-start-requires c κs = search needs

@@ -7,17 +7,8 @@ use borrow.Author.Needs.{needs}
 use Rattle.machine.proofs.record.Machine.store_mask.Statement.{statement}
 use Rattle.machine.proofs.record.Machine.store_mask.Tie as tie
 
-sound-requires : tie.Need-sound-requires
-sound-requires c κs = search needs
-
-privileged-requires : tie.Need-privileged-requires
-privileged-requires c κs = search needs
-
-register-number-requires : tie.Need-register-number-requires
-register-number-requires c κs = search needs
-
-checked-requires : tie.Need-checked-requires
-checked-requires c κs = search needs
+register-store-number-requires : tie.Need-register-store-number-requires
+register-store-number-requires c κs = search needs
 
 with-mask-requires : tie.Need-with-mask-requires
 with-mask-requires c κs = search needs
@@ -28,19 +19,9 @@ or-where-requires c κs = search needs
 returns : tie.Need-returns
 unfolding checksOf effectOf
 returns c =
-    let a = c .before .before .before .before .before .before .before .args in
-    registers-answered (a .self) (StoreMask (a .bits))
-    (rw (c .before .before .checked .ensures, c .before .before .before .register-number .ensures, c .before .before .before .before .privileged .ensures, c .before .before .before .before .before .sound .ensures))
-    refl refl (rw (c .or-where .ensures, c .before .with-mask .ensures))
+    let a = c .before .before .before .before .args in
+    registers-answered (a .self) (StoreMask (a .bits)) (c .before .before .register-store-number .ensures) refl refl
+    (rw (c .or-where .ensures, c .before .with-mask .ensures))
 
 pub store-mask-spec : {M : Type 1} → statement M
-store-mask-spec =
-    tie.close
-    (tie.spec
-    sound-requires
-    privileged-requires
-    register-number-requires
-    checked-requires
-    with-mask-requires
-    or-where-requires
-    returns)
+store-mask-spec = tie.close (tie.spec register-store-number-requires with-mask-requires or-where-requires returns)
