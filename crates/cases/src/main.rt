@@ -33,19 +33,25 @@ fn run_case(input: &[u8], number: u64) -> usize
     input.len()
 }
 
+// Runs the cases one after another, to the end of the bytes or to a case that they cut.
+fn run_cases(bytes: &[u8])
+    requires { ⌜ length (now bytes) ≤ 262144 ⌝ }
+{
+    let mut at: usize = 0;
+    let mut number: u64 = 1;
+    while 4 <= bytes.len() - at {
+        let start = at + 4;
+        let size = size_at(bytes, at as u32);
+        if bytes.len() - start < size {
+            return;
+        }
+        at = start + run_case(&bytes[start..start + size], number);
+        number += 1;
+    }
+}
+
 fn main() {
     let mut bytes = [0u8; 262144];
     let got = io::read_full(STDIN_FILENO, &mut bytes);
-    let mut at: u32 = 0;
-    let mut number: u64 = 1;
-    while at as usize + 4 <= got {
-        let start = at as usize + 4;
-        let size = size_at(&bytes, at);
-        if got - start < size {
-            return;
-        }
-        let end = start + size;
-        at = (start + run_case(&bytes[start..end], number)) as u32;
-        number += 1;
-    }
+    run_cases(&bytes[..got]);
 }
