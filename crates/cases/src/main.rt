@@ -4,22 +4,22 @@ use image::bytes::word_at;
 use libc::STDIN_FILENO;
 use libc::STDOUT_FILENO;
 ghost use mathlib.Core.Path.{_≡_};
-ghost use Prim.Native.Nat.{_+_, _*_, _≤_};
+ghost use Prim.Native.Nat.{_≤_};
 ghost use lib.ListN.{length};
-ghost use Rattle.image.specs.Bytes.{wordAt};
+ghost use Rattle.cases.specs.Cases.{endOf, nextOf};
 
-// The length of the case at a place of the bytes.
-fn size_at(bytes: &[u8], at: u32) -> usize
+// Where the case at a place of the bytes ends.
+fn end_at(bytes: &[u8], at: u32) -> usize
     requires { ⌜ at ≤ 262144 ⌝ }
-    ensures { λ r. ⌜ r ≡ 65536 * wordAt (now (bytes .entry)) at + wordAt (now (bytes .entry)) (2 + at) ⌝ }
+    ensures { λ r. ⌜ r ≡ endOf (now (bytes .entry)) at ⌝ }
 {
     let high = word_at(bytes, at);
     let low = word_at(bytes, 2 + at);
-    65536 * (high as usize) + low as usize
+    at as usize + 4 + (65536 * (high as usize) + low as usize)
 }
 
-// Runs one case: prints its number and the text of its input, and answers how long the input is.
-fn run_case(input: &[u8], number: u64) -> usize
+// Prints the number of a case and the text of its input, and answers how long the input is.
+fn print_case(input: &[u8], number: u64) -> usize
     ensures { λ r. ⌜ r ≡ length (now (input .entry)) ⌝ }
 {
     let mut text = [0u8; 100000];
@@ -33,21 +33,30 @@ fn run_case(input: &[u8], number: u64) -> usize
     input.len()
 }
 
-// Runs the cases one after another, to the end of the bytes or to a case that they cut.
-fn run_cases(bytes: &[u8])
+// Runs the case at a place of the bytes, where they hold all of it, and answers where the next one stands.
+fn run_case(bytes: &[u8], at: usize, number: u64) -> usize
+    requires { ⌜ at ≤ 262144 ⌝ }
+    ensures { λ r. ⌜ r ≡ nextOf (now (bytes .entry)) at ⌝ }
+{
+    let end = end_at(bytes, at as u32);
+    if end <= bytes.len() {
+        return at + 4 + print_case(&bytes[at + 4..end], number);
+    }
+    bytes.len()
+}
+
+// Runs the cases one after another, and answers where they end: at the end of the bytes.
+fn run_cases(bytes: &[u8]) -> usize
     requires { ⌜ length (now bytes) ≤ 262144 ⌝ }
+    ensures { λ r. ⌜ r ≡ length (now (bytes .entry)) ⌝ }
 {
     let mut at: usize = 0;
     let mut number: u64 = 1;
-    while 4 <= bytes.len() - at {
-        let start = at + 4;
-        let size = size_at(bytes, at as u32);
-        if bytes.len() - start < size {
-            return;
-        }
-        at = start + run_case(&bytes[start..start + size], number);
+    while at < bytes.len() {
+        at = run_case(bytes, at, number);
         number += 1;
     }
+    at
 }
 
 fn main() {

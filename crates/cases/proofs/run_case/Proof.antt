@@ -1,62 +1,71 @@
--- `cases::run_case` meets its contract: the text that it writes stands in the buffer.
-use mathlib.Core.Path.{sym}
-use native.Mathlib.Omega.{arith}
-use lib.Seq.{length-take-le}
+-- `cases::run_case` meets its contract: a case that the bytes hold is as long as it says, and one that they cut is the last.
+use mathlib.Core.Path.{_≡_, _∙_}
+use Prim.Native.Nat.{_+_, _-_, _≤_}
 use borrow.Author.Needs.{needs}
+use borrow.Author.Tests.{le-leb, lt-leb}
+use native.Mathlib.Omega.{arith}
+use lib.ListN.{length-take, length-drop}
+use Rattle.cases.specs.Cases.{nextOf}
+use Rattle.cases.proofs.Places.{end-past}
 use Rattle.cases.proofs.run_case.Statement.{statement}
 use Rattle.cases.proofs.run_case.Tie as tie
 
-slice-aggregate-write-all : tie.Need-slice-aggregate-write-all
-slice-aggregate-write-all c = search needs
+cast-end-at : tie.Need-cast-end-at
+cast-end-at c = search needs
 
-write-all-requires : tie.Need-write-all-requires
-write-all-requires c κs = search needs
+end-at-requires : tie.Need-end-at-requires
+end-at-requires c κs = search needs
 
-print-decimal-requires : tie.Need-print-decimal-requires
-print-decimal-requires c κs = search needs
+add-result : tie.Need-add-result
+add-result c = search needs
 
-slice-aggregate-write-all-2 : tie.Need-slice-aggregate-write-all-2
-slice-aggregate-write-all-2 c = search needs
+add-print-case : tie.Need-add-print-case
+add-print-case c = search needs
 
-write-all-requires-2 : tie.Need-write-all-requires-2
-write-all-requires-2 c κs = search needs
+sub-print-case : tie.Need-sub-print-case
+sub-print-case c = rw (c .before .end-at .ensures) (end-past _ _)
 
-slice-aggregate-text-of : tie.Need-slice-aggregate-text-of
-slice-aggregate-text-of c = search needs
+part-print-case-start : tie.Need-part-print-case-start
+part-print-case-start c = omega (arith, c .before .end-at .ensures, end-past (c .before .before .before .args .bytes .now) (c .before .before .before .args .at))
 
-text-of-requires : tie.Need-text-of-requires
-text-of-requires c κs = search needs
+part-print-case-end : tie.Need-part-print-case-end
+part-print-case-end c = search needs
 
-array-share-prefix-text : tie.Need-array-share-prefix-text
-array-share-prefix-text c = search needs
+print-case-requires : tie.Need-print-case-requires
+print-case-requires c κs = search needs
 
-slice-aggregate-write-all-3 : tie.Need-slice-aggregate-write-all-3
-slice-aggregate-write-all-3 c =
-    let called = c .before .before .before .text-of in
-    sym (length-take-le (called .result) (called .last .1 .0) (omega (arith, called .kept .1 .0)))
+add-result-2 : tie.Need-add-result-2
+add-result-2 c = search needs
 
-write-all-requires-3 : tie.Need-write-all-requires-3
-write-all-requires-3 c κs = search needs
+-- what is printed is the rest of the case
+printed : (c : tie.After-print-case) → c .before .before .before .before .before .args .at + 4 + c .print-case .result ≡ c .before .before .before .end-at .result
+printed c =
+    let a = c .before .before .before .before .before .args in
+    let end = c .before .before .before .end-at in
+    let past : a .at + 4 ≤ end .result = rw (end .ensures) (end-past (a .bytes .now) (a .at)) in
+    let rest : c .print-case .result ≡ end .result - (a .at + 4) = c .print-case .ensures ∙ simp (length-take, length-drop) (omega (arith, c .before .before .if1 .taken)) in
+    omega (arith, past, rest)
 
 returns : tie.Need-returns
-returns c = search needs
+unfolding nextOf
+returns c = rw (← c .before .before .before .end-at .ensures, le-leb _ _ (c .before .before .if1 .taken)) (printed c)
 
 returns-2 : tie.Need-returns-2
-returns-2 c = search needs
+unfolding nextOf
+returns-2 c = rw (← c .before .end-at .ensures, lt-leb _ _ (c .if1 .left))
 
 pub run-case-spec : {M : Type 1} → statement M
 run-case-spec =
     tie.close
     (tie.spec
-    slice-aggregate-write-all
-    write-all-requires
-    print-decimal-requires
-    slice-aggregate-write-all-2
-    write-all-requires-2
-    slice-aggregate-text-of
-    text-of-requires
-    array-share-prefix-text
-    slice-aggregate-write-all-3
-    write-all-requires-3
+    cast-end-at
+    end-at-requires
+    add-result
+    add-print-case
+    sub-print-case
+    part-print-case-start
+    part-print-case-end
+    print-case-requires
+    add-result-2
     returns
     returns-2)
