@@ -1,43 +1,53 @@
 #!/usr/bin/env python3
-"""Checks the must-fail edits that change several functions at once: each function that such an edit names was refused by itself.
+"""Checks why the prover refused each must-fail edit: every function and law that the edit names was refused by itself.
 
 Usage: refused.py   (from the repository's root, after `rt ci` or `rt must-fail`)
-An edit names them in a line '# Refused one by one: NAME ..'. A function is refused by itself where an error stands in its own proof
-file, or where the search that proves it without one finds nothing; not where it only calls a function that is not proved.
+An edit names them in a line '# Refused: NAME ..'. A function is refused by itself where an error stands in its own proof file, or
+where the search that proves it without one finds nothing; a law where an error stands in it. An error that only says that something
+below was not admitted does not count, and neither does one that says that a proof no longer fits the code's shape.
 """
 import pathlib
 import re
 import sys
 
+BELOW = 'was not admitted'
 SHAPE = ('that can be named from here', 'not in scope', 'has no field', 'has no `Need-')
-NAMES = re.compile(r'^# Refused one by one: (.*)$', re.M)
+NAMES = re.compile(r'^# Refused: (.+)$', re.M)
+
+
+def facts(errors):
+    """Whether one of these errors is a fact that fails, and none of them a shape that does not fit."""
+    own = [error for error in errors if BELOW not in error]
+    return bool(own) and not any(word in error for error in own for word in SHAPE)
 
 
 def refused(log, name):
-    """Whether a fact of this function failed; that its proof no longer fits the code's shape does not count."""
-    own = re.compile(rf'/{name}/Proof\.antt:\d+:\d+: error: `(?!\S*-spec`).*')
-    facts = [e for e in own.findall(log) if not any(word in e for word in SHAPE)]
-    shapes = len(own.findall(log)) - len(facts)
-    open_need = re.search(rf'^fn \S*::{name}: no proof: .*does not close', log, re.M)
-    return not shapes and (facts or open_need)
+    """Whether the function or the law of this name was refused by itself."""
+    if re.search(rf'^fn \S*::{name}: no proof: .*does not close', log, re.M):
+        return True
+    place = rf'/{name}/Proof\.antt' if re.search(rf'^fn \S*::{name}: ', log, re.M) else r'/[A-Z]\w*\.antt'
+    law = r'\S+' if 'Proof' in place else name
+    return facts(re.findall(rf'{place}:\d+:\d+: error: `{law}`: (.*)', log))
 
 
 def main():
     root = pathlib.Path('.')
     named = missed = 0
     for edit in sorted(root.glob('crates/*/must-fail/*.edit')):
-        found = NAMES.search(edit.read_text(encoding='utf-8'))
-        if not found:
-            continue
         crate = edit.parts[-3]
+        found = NAMES.search(edit.read_text(encoding='utf-8'))
         log = root / 'target' / 'must-fail' / crate / edit.stem / '.log'
         text = log.read_text(encoding='utf-8', errors='replace') if log.exists() else ''
+        if not found:
+            missed += 1
+            print(f'{crate}/{edit.stem}: names nothing that refuses it')
+            continue
         for name in found.group(1).split():
             named += 1
             if not refused(text, name):
                 missed += 1
                 print(f'{crate}/{edit.stem}: {name} was not refused by itself')
-    print(f'{named} functions named, {named - missed} refused by themselves')
+    print(f'{named} functions and laws named by the edits, {missed} of them not refused by themselves')
     return 1 if missed or not named else 0
 
 

@@ -13,13 +13,22 @@ room₁ : (c : tie.After-put-leading) → c .put-leading .result + 4 ≤ length 
 room₁ c = room 1 4 (c .put-leading .ensures) (leading-most (c .before .before .before .args .n) 10000) (c .before .before .before .pre)
 
 room₂ : (c : tie.After-put-leading2) → c .put-leading2 .result + 3 ≤ length (c .put-leading2 .last .0)
-room₂ c = room 1 3 (c .put-leading2 .ensures) (leading-most (c .before .before .before .before .before .before .before .args .n) 1000) (room₁ (c .before .before .before .before))
+room₂ c =
+    let p₁ = c .before .before .before .before in
+    room 1 3 (c .put-leading2 .ensures) (leading-most (p₁ .before .before .before .args .n) 1000) (room₁ p₁)
 
 room₃ : (c : tie.After-put-leading3) → c .put-leading3 .result + 2 ≤ length (c .put-leading3 .last .0)
-room₃ c = room 1 2 (c .put-leading3 .ensures) (leading-most (c .before .before .before .before .before .before .before .before .before .before .before .args .n) 100) (room₂ (c .before .before .before .before))
+room₃ c =
+    let p₂ = c .before .before .before .before in
+    let p₁ = p₂ .before .before .before .before in
+    room 1 2 (c .put-leading3 .ensures) (leading-most (p₁ .before .before .before .args .n) 100) (room₂ p₂)
 
 room₄ : (c : tie.After-put-leading4) → c .put-leading4 .result + 1 ≤ length (c .put-leading4 .last .0)
-room₄ c = room 1 1 (c .put-leading4 .ensures) (leading-most (c .before .before .before .before .before .before .before .before .before .before .before .before .before .before .before .args .n) 10) (room₃ (c .before .before .before .before))
+room₄ c =
+    let p₃ = c .before .before .before .before in
+    let p₂ = p₃ .before .before .before .before in
+    let p₁ = p₂ .before .before .before .before in
+    room 1 1 (c .put-leading4 .ensures) (leading-most (p₁ .before .before .before .args .n) 10) (room₃ p₃)
 
 put-leading-requires : tie.Need-put-leading-requires
 put-leading-requires c κs = search needs

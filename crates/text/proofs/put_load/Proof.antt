@@ -17,16 +17,23 @@ put-decimal-requires c κs = search needs
 
 put-byte-requires : tie.Need-put-byte-requires
 put-byte-requires c κs =
-    let word = c .before .before .before .before .before .before .before .put-bytes .ensures in
-    let number = c .before .before .before .put-decimal .ensures in
-    omega (arith, word .next, put-long word, number .next, put-long number, decimal-most (c .before .before .before .before .before .before .before .before .before .before .before .args .answer), c .before .before .before .before .before .before .before .before .before .before .before .pre)
+    let p₂ = c .before .before .before in
+    let p₁ = p₂ .before .before .before .before in
+    let start = p₁ .before .before .before .before in
+    let word = p₁ .put-bytes .ensures in
+    let number = p₂ .put-decimal .ensures in
+    omega (arith, word .next, put-long word, number .next, put-long number, decimal-most (start .args .answer), start .pre)
 
 same-length : tie.Need-same-length
 same-length c = search needs
 
 returns : tie.Need-returns
 unfolding loadLine
-returns c = put-put (c .before .before .before .before .before .before .before .before .before .before .put-bytes .ensures) (put-put (c .before .before .before .before .before .before .put-decimal .ensures) (c .before .before .put-byte .ensures))
+returns c =
+    let p₃ = c .before .before in
+    let p₂ = p₃ .before .before .before .before in
+    let p₁ = p₂ .before .before .before .before in
+    put-put (p₁ .put-bytes .ensures) (put-put (p₂ .put-decimal .ensures) (p₃ .put-byte .ensures))
 
 pub put-load-spec : {M : Type 1} → statement M
 put-load-spec =

@@ -15,7 +15,9 @@ answered : (c : tie.After-bench-run)
     → let input = c .before .before .before .before .args .input .now in
     let exit = c .bench-run .last .1 .0 in
     (c .bench-run .result ≡ length (answersOf input)) × (take (c .bench-run .result) exit ≡ answersOf input) × (getD exit 0 0 ≡ loadedOf input .number)
-answered c = front (c .before .before .before .before .args .input .now) (replicate 5462 0) (c .before .before .before .before .pre .0) (length-replicate {A = ℕ} 5462 0) (c .bench-run .ensures .0) (c .bench-run .ensures .1)
+answered c =
+    let start = c .before .before .before .before in
+    front (start .args .input .now) (replicate 5462 0) (start .pre .0) (length-replicate {A = ℕ} 5462 0) (c .bench-run .ensures .0) (c .bench-run .ensures .1)
 
 slice-aggregate-bench-run : tie.Need-slice-aggregate-bench-run
 slice-aggregate-bench-run c = search needs
@@ -30,18 +32,23 @@ put-load-requires : tie.Need-put-load-requires
 put-load-requires c κs = search needs
 
 array-share-prefix-answers : tie.Need-array-share-prefix-answers
-array-share-prefix-answers c = omega (arith, answered (c .before .before .before .before .before) .0, answers-fit (c .before .before .before .before .before .before .before .before .before .args .input .now) (c .before .before .before .before .before .before .before .before .before .pre .0))
+array-share-prefix-answers c =
+    let sending = c .before .before .before .before .before in
+    let start = sending .before .before .before .before in
+    omega (arith, answered sending .0, answers-fit (start .args .input .now) (start .pre .0))
 
 slice-aggregate-put-lines : tie.Need-slice-aggregate-put-lines
 slice-aggregate-put-lines c = let sent = answered (c .before .before .before .before .before .before) in sent .0 ∙ sym (ap length (sent .1))
 
 put-lines-requires : tie.Need-put-lines-requires
 put-lines-requires c κs =
-    let start = c .before .before .before .before .before .before .before .before .before .before .before in
-    let load = c .before .before .before .before .put-load .ensures in
+    let loading = c .before .before .before .before in
+    let sending = loading .before .before .before in
+    let start = sending .before .before .before .before in
+    let load = loading .put-load .ensures in
     let most = answers-fit (start .args .input .now) (start .pre .0) in
-    rw (answered (c .before .before .before .before .before .before .before) .1)
-    (omega (arith, most), omega (arith, most, load .next, put-long load, load-most (getD (c .before .before .before .before .before .before .before .bench-run .last .1 .0) 0 0), start .pre .1))
+    let longest = load-most (getD (sending .bench-run .last .1 .0) 0 0) in
+    rw (answered sending .1) (omega (arith, most), omega (arith, most, load .next, put-long load, longest, start .pre .1))
 
 calls-start-requires : tie.Need-calls-start-requires
 calls-start-requires c κs = search needs
@@ -54,22 +61,34 @@ bytes-taken-requires c κs = search needs
 
 put-cut-requires : tie.Need-put-cut-requires
 put-cut-requires c κs =
-    let start = c .before .before .before .before .before .before .before .before .before .before .before .before .before .before .before .before .before in
-    let load = c .before .before .before .before .before .before .before .before .before .before .put-load .ensures in
-    let lines = c .before .before .before .before .before .put-lines .ensures in
-    let exit = c .before .before .before .before .before .before .before .before .before .before .before .before .before .bench-run .last .1 .0 in
-    let answers = take (c .before .before .before .before .before .before .before .before .before .before .before .before .before .bench-run .result) exit in
+    let lining = c .before .before .before .before .before in
+    let loading = lining .before .before .before .before .before in
+    let sending = loading .before .before .before in
+    let start = sending .before .before .before .before in
+    let load = loading .put-load .ensures in
+    let lines = lining .put-lines .ensures in
+    let exit = sending .bench-run .last .1 .0 in
+    let answers = take (sending .bench-run .result) exit in
     let most = answers-fit (start .args .input .now) (start .pre .0) in
-    omega (arith, load .next, put-long load, load-most (getD exit 0 0), lines .next, put-long lines, lines-most 1 (drop 1 answers), length-drop 1 answers, ap length (answered (c .before .before .before .before .before .before .before .before .before .before .before .before .before) .1), most, start .pre .1)
+    let longest = lines-most 1 (drop 1 answers) in
+    let sent = ap length (answered sending .1) in
+    omega (arith, load .next, put-long load, load-most (getD exit 0 0), lines .next, put-long lines, longest, length-drop 1 answers, sent, most, start .pre .1)
 
 same-length : tie.Need-same-length
 same-length c = search needs
 
 returns : tie.Need-returns
 returns c =
-    let sent = answered (c .before .before .before .before .before .before .before .before .before .before .before .before .before .before .before .before) in
-    rw (← run-text (c .before .before .before .before .before .before .before .before .before .before .before .before .before .before .before .before .before .before .before .before .args .input .now) (c .before .before .before .before .calls-start .ensures), ← sent .2, ← c .before .before .before .bytes-taken .ensures)
-    (put-put (c .before .before .before .before .before .before .before .before .before .before .before .before .before .put-load .ensures) (put-put (rw (sent .1) at (c .before .before .before .before .before .before .before .before .put-lines .ensures)) (c .before .before .put-cut .ensures)))
+    let cutting = c .before .before in
+    let taking = cutting .before in
+    let starting = taking .before in
+    let lining = starting .before .before .before .before in
+    let loading = lining .before .before .before .before .before in
+    let sending = loading .before .before .before in
+    let input = sending .before .before .before .before .args .input .now in
+    let sent = answered sending in
+    rw (← run-text input (starting .calls-start .ensures), ← sent .2, ← taking .bytes-taken .ensures)
+    (put-put (loading .put-load .ensures) (put-put (rw (sent .1) at (lining .put-lines .ensures)) (cutting .put-cut .ensures)))
 
 pub put-run-spec : {M : Type 1} → statement M
 put-run-spec =

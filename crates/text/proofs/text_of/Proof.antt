@@ -25,8 +25,10 @@ same-length c = search needs
 returns-2 : tie.Need-returns-2
 unfolding printed textOf
 returns-2 c =
-    let a = c .before .before .before .before .before .before .before .before .before .args in
-    rw (le-leb 100000 (length (a .out .now)) (c .before .before .before .before .before .before .if1 .left), lt-ltb 32768 (length (a .input .now)) (c .before .before .before .before .before .if2 .taken)) (c .before .before .put-bytes .ensures)
+    let long = c .before .before .before .before .before in
+    let room = long .before in
+    let a = room .before .before .before .args in
+    rw (le-leb 100000 (length (a .out .now)) (room .if1 .left), lt-ltb 32768 (length (a .input .now)) (long .if2 .taken)) (c .before .before .put-bytes .ensures)
 
 put-run-requires : tie.Need-put-run-requires
 put-run-requires c κs = search needs
@@ -37,8 +39,10 @@ same-length-2 c = search needs
 returns-3 : tie.Need-returns-3
 unfolding printed textOf
 returns-3 c =
-    let a = c .before .before .before .before .before .before .before .before .args in
-    rw (le-leb 100000 (length (a .out .now)) (c .before .before .before .before .before .if1 .left), le-ltb 32768 (length (a .input .now)) (c .before .before .before .before .if2 .left)) (c .before .before .put-run .ensures)
+    let short = c .before .before .before .before in
+    let room = short .before in
+    let a = room .before .before .before .args in
+    rw (le-leb 100000 (length (a .out .now)) (room .if1 .left), le-ltb 32768 (length (a .input .now)) (short .if2 .left)) (c .before .before .put-run .ensures)
 
 pub text-of-spec : {M : Type 1} → statement M
 text-of-spec =

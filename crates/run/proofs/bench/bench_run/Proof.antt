@@ -32,37 +32,47 @@ answer-count-requires c κs = search needs
 
 returns-2 : tie.Need-returns-2
 returns-2 c =
-    let a = c .before .before .before .before .before .before .before .args in
-    short-sends (a .input .now) (a .answers .now) (c .before .before .before .calls-start .ensures) (c .before .before .before .before .if1 .left) (counted (c .before)) (c .if2 .taken)
+    let counting = c .before in
+    let starting = counting .before .before in
+    let a = starting .before .before .before .before .args in
+    short-sends (a .input .now) (a .answers .now) (starting .calls-start .ensures) (starting .before .if1 .left) (counted counting) (c .if2 .taken)
 
 slice-write-answers : tie.Need-slice-write-answers
 slice-write-answers c = omega (arith, counted (c .before))
 
 answer-calls-requires : tie.Need-answer-calls-requires
 answer-calls-requires c κs =
-    let n = rw (eq-eqb (c .before .before .before .before .load-input .result .number) 0 (c .before .if3 .taken)) at (c .before .before .before .answer-count .ensures) in
-    (omega (arith, c .before .before .before .before .before .calls-start .ensures), simp length-set (omega (arith, n)))
+    let counting = c .before .before .before in
+    let n = rw (eq-eqb (counting .before .load-input .result .number) 0 (c .before .if3 .taken)) at (counting .answer-count .ensures) in
+    (omega (arith, counting .before .before .calls-start .ensures), simp length-set (omega (arith, n)))
 
 same-length : tie.Need-same-length
 same-length c = c .before .before .answer-calls .kept .1 .1 .1 .0 ∙ simp length-set
 
 returns-3 : tie.Need-returns-3
 returns-3 c =
-    let a = c .before .before .before .before .before .before .before .before .before .before .before .before .args in
-    all-sends (a .input .now) (a .answers .now) (c .before .before .before .before .before .before .before .before .calls-start .ensures) (c .before .before .before .before .before .before .before .before .before .if1 .left) (counted (c .before .before .before .before .before .before)) (c .before .before .before .before .before .if2 .left)
+    let room = c .before .before .before .before .before in
+    let loading = room .before .before in
+    let starting = loading .before in
+    let a = starting .before .before .before .before .args in
+    all-sends (a .input .now) (a .answers .now) (starting .calls-start .ensures) (starting .before .if1 .left) (counted (room .before)) (room .if2 .left)
     (c .before .before .answer-calls .ensures
-    ∙ rw (c .before .before .before .before .before .before .before .load-input .ensures)
-    (stored-all (a .input .now) (a .answers .now) (c .before .before .before .before .before .before .before .before .calls-start .ensures) (rw (← c .before .before .before .before .before .before .before .load-input .ensures) (c .before .before .before .before .if3 .taken))))
+    ∙ rw (loading .load-input .ensures)
+    (stored-all (a .input .now) (a .answers .now) (starting .calls-start .ensures)
+    (rw (← loading .load-input .ensures) (c .before .before .before .before .if3 .taken))))
 
 same-length-2 : tie.Need-same-length-2
 same-length-2 c = search needs
 
 returns-4 : tie.Need-returns-4
 returns-4 c =
-    let a = c .before .before .before .before .before .before .before .before .args in
-    all-sends (a .input .now) (a .answers .now) (c .before .before .before .before .calls-start .ensures) (c .before .before .before .before .before .if1 .left) (counted (c .before .before)) (c .before .if2 .left)
-    (rw (c .before .before .before .load-input .ensures)
-    (stored-one (a .input .now) (a .answers .now) (c .before .before .before .before .calls-start .ensures) (rw (← c .before .before .before .load-input .ensures) (c .if3 .left))))
+    let room = c .before in
+    let loading = room .before .before in
+    let starting = loading .before in
+    let a = starting .before .before .before .before .args in
+    all-sends (a .input .now) (a .answers .now) (starting .calls-start .ensures) (starting .before .if1 .left) (counted (room .before)) (room .if2 .left)
+    (rw (loading .load-input .ensures)
+    (stored-one (a .input .now) (a .answers .now) (starting .calls-start .ensures) (rw (← loading .load-input .ensures) (c .if3 .left))))
 
 pub bench-run-spec : {M : Type 1} → statement M
 bench-run-spec =

@@ -37,8 +37,12 @@ unfolding isSound commandChecks
 returns c =
     let a = c .before .before .before .before .before .before .before .before .before .before .before .before .args in
     let answer =
-    change-answered (withFields (a .fields .now) (a .self)) (a .right) (a .page) (a .domain) (a .granting) (c .before .before .before .before .before .before .before .read-field .ensures) (c .before .before .before .before .before .before .before .before .before .place .ensures)
-    (c .before .before .before .before .before .before .change-number .ensures) (rw (← c .before .before .before .before .before .changed-bits .ensures) (c .before .before .before .chosen .ensures)) (c .before .before .write-field .ensures) in
+    change-answered (withFields (a .fields .now) (a .self)) (a .right) (a .page) (a .domain) (a .granting)
+    (c .before .before .before .before .before .before .before .read-field .ensures)
+    (c .before .before .before .before .before .before .before .before .before .place .ensures)
+    (c .before .before .before .before .before .before .change-number .ensures)
+    (rw (← c .before .before .before .before .before .changed-bits .ensures) (c .before .before .before .chosen .ensures))
+    (c .before .before .write-field .ensures) in
     (ap (λ (r : Answered). r .number) answer, ap (λ (r : Answered). r .machine .fields) answer)
 
 pub change-lent-spec : {M : Type 1} → statement M

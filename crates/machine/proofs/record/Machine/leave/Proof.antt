@@ -46,13 +46,18 @@ unfolding checksOf effectOf returned
 returns c =
     let m = c .before .before .before .before .before .before .before .before .args .self in
     let n = c .before .checked .result in
+    let below = c .before .before .before .before .before .below in
+    let top = below .ensures in
     let number : n ≡ numberOf m Return =
     rw (c .before .checked .ensures, c .before .before .return-number .ensures, c .before .before .before .privileged .ensures, c .before .before .before .before .sound .ensures) in
     ⊎-elim
-    (λ w. done m Return number (w .0 .taken) (with-stack m (w .5 ∙ c .before .before .before .before .before .below .ensures) (w .6 ∙ ap (λ (k : ℕ). set (m .saved) k noMode) (c .before .before .before .before .before .below .ensures)) (w .4 ∙ w .3 .ensures ∙ ap (λ (k : ℕ). withMode (getD (m .saved) k noMode .mode) (m .registers)) (c .before .before .before .before .before .below .ensures))))
+    (λ w.
+    let emptied = ap (λ (k : ℕ). set (m .saved) k noMode) top in
+    let restored = ap (λ (k : ℕ). withMode (getD (m .saved) k noMode .mode) (m .registers)) top in
+    done m Return number (w .0 .taken) (with-stack m (w .5 ∙ top) (w .6 ∙ emptied) (w .4 ∙ w .3 .ensures ∙ restored)))
     (λ w.
     let refused : n ≡ 0 → ⊥ =
-    ⊎-elim (λ v z. omega (arith, ltb-false (c .before .before .before .before .before .below .result) 8 (v .1 .left), return-within m (sym number ∙ z), c .before .before .before .before .before .below .ensures)) (λ v. v .left) (w .0 .came) in
+    ⊎-elim (λ v z. omega (arith, ltb-false (below .result) 8 (v .1 .left), return-within m (sym number ∙ z), top)) (λ v. v .left) (w .0 .came) in
     kept m Return number refl refused (with-stack m (w .2) (w .3) (w .1)))
     (c .if1 .came)
 

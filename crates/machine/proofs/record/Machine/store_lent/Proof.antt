@@ -42,11 +42,18 @@ same-length c = search needs
 returns : tie.Need-returns
 unfolding checksOf effectOf isSound
 returns c =
-    let a = c .before .before .before .before .before .before .before .before .before .before .before .before .before .before .before .before .before .args in
+    let numbered = c .before .before .before .before .before .before .before .before .before in
+    let a = numbered .before .before .before .before .before .before .before .before .args in
     let place = c .before .before .before .before .before .before .before .place in
     let answer =
-    store-answered (withFields (a .fields .now) (a .self)) (StoreField (a .right) (a .page) (a .bits)) {n = c .before .before .before .before .before .before .before .before .before .checked .result} (place .result) (a .bits) (c .before .before .before .before .before .read-field .ensures)
-    (rw (c .before .before .before .before .before .before .before .before .before .checked .ensures, c .before .before .before .before .before .before .before .before .before .before .field-number .ensures, c .before .before .before .before .before .before .before .before .before .before .before .privileged .ensures, c .before .before .before .before .before .before .before .before .before .before .before .before .before .before .sound .ensures))
+    store-answered (withFields (a .fields .now) (a .self)) (StoreField (a .right) (a .page) (a .bits)) {n = numbered .checked .result} (place .result)
+    (a .bits) (c .before .before .before .before .before .read-field .ensures)
+    (rw (
+      numbered .checked .ensures,
+      numbered .before .field-number .ensures,
+      numbered .before .before .privileged .ensures,
+      numbered .before .before .before .before .before .sound .ensures,
+    ))
     refl (rw (← place .ensures)) (c .before .before .before .chosen .ensures) (c .before .before .write-field .ensures) in
     (ap (λ (r : Answered). r .number) answer, ap (λ (r : Answered). r .machine .fields) answer)
 

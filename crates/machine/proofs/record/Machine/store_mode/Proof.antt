@@ -33,7 +33,12 @@ unfolding checksOf effectOf
 returns c =
     let a = c .before .before .before .before .before .before .before .before .args in
     registers-answered (a .self) (StoreMode (a .mode))
-    (rw (c .before .before .before .checked .ensures, c .before .before .before .before .mode-number .ensures, c .before .before .before .before .before .privileged .ensures, c .before .before .before .before .before .before .sound .ensures))
+    (rw (
+      c .before .before .before .checked .ensures,
+      c .before .before .before .before .mode-number .ensures,
+      c .before .before .before .before .before .privileged .ensures,
+      c .before .before .before .before .before .before .sound .ensures,
+    ))
     refl refl (rw (c .or-where .ensures, c .before .with-mode .ensures, c .before .before .mode-of .ensures))
 
 pub store-mode-spec : {M : Type 1} → statement M

@@ -1,0 +1,79 @@
+-- The prevailing domain is the lowest-numbered one that a field holds. By induction on the binary digits: those below the lowest set one
+-- are 0, and it is 1.
+use Prim.Native.Nat.{ℕ, zero, suc, _+_, _-_, _*_, _/_, _%_, _^_, _<_}
+use mathlib.Core.Path.{_≡_, refl, sym, ap, _∙_}
+use mathlib.Core.Bool.{Bool, true, false, not, true≢false}
+use borrow.Author.Tests.{eqb-true, eqb-false, eq-eqb, ne-eqb}
+use lib.Bits.{bitAnd, and-high}
+use lib.Count.{trailingZeros, under}
+use lib.Dec.{eqb}
+use lib.Pow.{pow-pos, pow-add}
+use native.Mathlib.Nat.{pow-suc, pow-succ', div-div-eq-div-mul, div-one, one-mul, zero-mul}
+use native.Mathlib.Omega.{arith}
+use Rattle.rules.specs.Domains.{domainBit, holds, prevailing}
+use Rattle.rules.specs.Refusals.{pick}
+use Rattle.rules.specs.declared.domains.Prevailing.the-variants.{Absent, At}
+use Rattle.rules.proofs.Laws.{domain-bit}
+
+halved : (n s : ℕ) → n / 2 ^ suc s ≡ n / 2 / 2 ^ s
+halved n s = ap (λ (x : ℕ). n / x) (pow-succ' 2 s) ∙ sym (div-div-eq-div-mul n 2 (2 ^ s))
+
+-- the lowest set digit of a number of k digits is one of them, and set
+lowest-set : (k n : ℕ) → 0 < n → n < 2 ^ k → (trailingZeros k n < k) × (n / 2 ^ trailingZeros k n % 2 ≡ 1)
+unfolding trailingZeros
+lowest-set zero n some small = absurd (omega arith)
+lowest-set (suc k) n some small = go (n % 2) refl (λ (h : 0 < n / 2). lowest-set k (n / 2) h (omega (arith, small, pow-suc 2 k)))
+  where
+    go : (r : ℕ) → n % 2 ≡ r → (0 < n / 2 → (trailingZeros k (n / 2) < k) × (n / 2 / 2 ^ trailingZeros k (n / 2) % 2 ≡ 1))
+        → (under r (trailingZeros k (n / 2)) < suc k) × (n / 2 ^ under r (trailingZeros k (n / 2)) % 2 ≡ 1)
+    go zero e rest =
+        let half = rest (omega arith) in
+        (omega (arith, half), rw (halved n (trailingZeros k (n / 2))) (half .1))
+    go (suc r) e rest = (omega arith, rw (div-one n) (omega arith))
+
+-- the digits below it are not set
+below-unset : (k n s : ℕ) → s < trailingZeros k n → n / 2 ^ s % 2 ≡ 0
+unfolding trailingZeros
+below-unset zero n s below = absurd (omega arith)
+below-unset (suc k) n s below = go (n % 2) refl s below (below-unset k (n / 2))
+  where
+    go : (r : ℕ) → n % 2 ≡ r → (t : ℕ) → t < under r (trailingZeros k (n / 2))
+        → ((u : ℕ) → u < trailingZeros k (n / 2) → n / 2 / 2 ^ u % 2 ≡ 0) → n / 2 ^ t % 2 ≡ 0
+    go zero e zero h rest = rw (div-one n) e
+    go zero e (suc t) h rest = rw (halved n t) (rest t (omega arith))
+    go (suc r) e t h rest = absurd (omega arith)
+
+-- a field holds a domain exactly where the digit of its number is set
+held-digit : (field s : ℕ) → s < 16 → bitAnd field (domainBit s) ≡ (field / 2 ^ s % 2) * 2 ^ s
+held-digit field s known = rw (domain-bit s known) (ap (bitAnd field) alone ∙ and-high field 1 s)
+  where
+    alone : 2 ^ s ≡ 2 ^ (1 + s) - 2 ^ s
+    alone = omega (arith, pow-add 2 1 s)
+
+-- "The prevailing domain of a right to a page is the lowest-numbered bit set in the field for that right."
+pub prevailing-lowest : (field d : ℕ) → field < 65536 → prevailing field ≡ At d
+    → (d < 16) × (holds field d ≡ true) × ((s : ℕ) → s < d → holds field s ≡ false)
+unfolding prevailing
+prevailing-lowest field d small at = split (eqb field 0) refl at
+  where
+    split : (b : Bool) → eqb field 0 ≡ b → pick b Absent (At (trailingZeros 16 field)) ≡ At d
+        → (d < 16) × (holds field d ≡ true) × ((s : ℕ) → s < d → holds field s ≡ false)
+    split true e f = absurd (true≢false cc)
+    split false e f =
+        let place : trailingZeros 16 field ≡ d = cc in
+        let some = eqb-false field 0 e in
+        let lowest : (d < 16) × (field / 2 ^ d % 2 ≡ 1) = rw (← place) (lowest-set 16 field (omega arith) small) in
+        let held : bitAnd field (domainBit d) ≡ 2 ^ d = held-digit field d (lowest .0) ∙ rw (lowest .1) (one-mul (2 ^ d)) in (
+          lowest .0,
+          ap not (ne-eqb _ 0 (λ (none : bitAnd field (domainBit d) ≡ 0). omega (arith, none, held, pow-pos d))),
+          λ s below. ap not (eq-eqb _ 0 (held-digit field s (omega (arith, lowest .0)) ∙ rw (below-unset 16 field s (omega arith)) (zero-mul (2 ^ s)))),
+        )
+
+-- "An empty field has none.", and any other has one
+pub prevailing-absent : (field : ℕ) → prevailing field ≡ Absent → field ≡ 0
+unfolding prevailing
+prevailing-absent field none = split (eqb field 0) refl none
+  where
+    split : (b : Bool) → eqb field 0 ≡ b → pick b Absent (At (trailingZeros 16 field)) ≡ Absent → field ≡ 0
+    split true e f = eqb-true field 0 e
+    split false e f = cc
