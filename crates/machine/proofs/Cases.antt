@@ -1,116 +1,250 @@
--- Computed cases that fix the order of each call's conditions: in each row at least two conditions are met, and the first in
--- document 01's order decides. One claim over the table, computed.
+-- Computed cases. In the tables of order a call meets two conditions, neighbours in document 01's order as far as a machine can meet both,
+-- and the first decides; or it meets one, or none. In the table of effects each call is accepted, and the whole machine after it is written out.
 use Prim.Native.Nat.{ℕ}
 use mathlib.Core.Path.{_≡_, refl}
 use mathlib.Core.Bool.{Bool, true, false}
-use mathlib.Core.List.{List, [], _∷_, _++_, map}
+use mathlib.Core.List.{List, [], _∷_, map}
 use lib.ListN.{replicate}
 use Rattle.rules.specs.declared.registers.Mode.{Mode}
 use Rattle.rules.specs.declared.registers.Mode.the-variants.{User, Privileged}
+use Rattle.rules.specs.declared.registers.Registers.{Registers}
 use lib.Count.{trailingZeros}
 use Rattle.rules.specs.Domains.{prevailing, domainBit}
 use Rattle.machine.specs.Machine.{isSound, zero, noMode, noProgram, withRegisters}
-use Rattle.machine.specs.Calls.{callOf, checksOf, accessChecks, commandChecks}
+use Rattle.machine.specs.Calls.{callOf, checksOf, accessChecks, commandChecks, effectOf, entered, returned, switched, after}
 use Rattle.machine.specs.declared.record.Machine.{Machine}
+use Rattle.machine.specs.declared.record.Saved.{Saved}
+use Rattle.machine.specs.declared.record.Program.{Program}
 use Rattle.machine.specs.declared.record.Page.{Page}
 use Rattle.machine.specs.declared.record.Domain.{Domain}
 use Rattle.machine.specs.declared.record.Call.{Call}
-use Rattle.machine.specs.declared.record.Call.the-variants.{Access, Grant, SetMask, Enter, Return, Switch, StoreField, StoreMode}
+use Rattle.machine.specs.declared.record.Call.the-variants.{Access, Grant, Revoke, SetMask, Enter, Return, Switch, StoreField, StoreContext, StoreMask, StoreMode}
 
--- three pages of 256 bytes with the fields of figure 2 of 001, and two programs
-abbrev pub node : ℕ → Mode → Bool → Machine
-node depth mode pending =
+-- three pages and two programs
+abbrev paged : ℕ → List ℕ → Registers → ℕ → List Saved → ℕ → List Program → Machine
+paged exponent fields registers depth saved current table =
     record {
       pages = 3;
-      exponent = 8;
-      fields = 9 ∷ 0 ∷ 10 ∷ 2 ∷ 12 ∷ 4 ∷ replicate 250 0;
-      registers = record { context = 7; mask = 3; mode = mode; pending = pending };
+      exponent = exponent;
+      fields = fields;
+      registers = registers;
       depth = depth;
-      saved = replicate 8 noMode;
+      saved = saved;
       programs = 2;
-      current = 0;
-      table =
-          record { context = 7; mask = 3; mode = User } ∷ record { context = 8; mask = 65535; mode = User } ∷ replicate 6 noProgram;
+      current = current;
+      table = table;
     }
 
-abbrev pub page : ℕ → Page
+-- pages of 256 bytes
+abbrev written : List ℕ → Registers → ℕ → List Saved → ℕ → List Program → Machine
+written = paged 8
+
+-- the six fields, READ and WRITE of each page in turn, and zero past them
+abbrev fieldsOf : (r₀ w₀ r₁ w₁ r₂ w₂ : ℕ) → List ℕ
+fieldsOf r₀ w₀ r₁ w₁ r₂ w₂ = r₀ ∷ w₀ ∷ r₁ ∷ w₁ ∷ r₂ ∷ w₂ ∷ replicate 250 0
+
+-- those of figure 2 of 001
+abbrev figure : List ℕ
+figure = fieldsOf 9 0 10 2 12 4
+
+abbrev live : ℕ → ℕ → Mode → Bool → Registers
+live context mask mode pending = record { context = context; mask = mask; mode = mode; pending = pending }
+
+-- the first two places of the stack, and user past them
+abbrev stack : Mode → Mode → List Saved
+stack one two = record { mode = one } ∷ record { mode = two } ∷ replicate 6 noMode
+
+abbrev stored : ℕ → ℕ → Mode → Program
+stored context mask mode = record { context = context; mask = mask; mode = mode }
+
+abbrev table : Program → Program → List Program
+table one two = one ∷ two ∷ replicate 6 noProgram
+
+-- program 0 is current, with its own context and mask live
+abbrev saving : Mode → Bool → ℕ → List Saved → Machine
+saving mode pending depth saved =
+    written figure (live 7 3 mode pending) depth saved 0 (table (stored 7 3 User) (stored 8 65535 User))
+
+abbrev node : ℕ → Mode → Bool → Machine
+node depth mode pending = saving mode pending depth (stack User User)
+
+abbrev page : ℕ → Page
 page p = record { 0 = p }
 
-abbrev pub domain : ℕ → Domain
+abbrev domain : ℕ → Domain
 domain s = record { 0 = s }
 
--- the numbers of calls on a machine
-abbrev pub numbers : Machine → List Call → List ℕ
-numbers m = map (λ call. callOf m call .number)
+-- what calls on a machine answer, each by itself
+abbrev Answers : Machine → List (Call × ℕ) → Type 0
+Answers m rows = map (λ row. callOf m (row .0) .number) rows ≡ map (λ row. row .1) rows
 
--- a machine that is not sound: 1 comes before 2 and 17
-pub not-sound-first : numbers zero (Access 2 0 ∷ StoreField 2 (page 0) 0 ∷ StoreMode 2 ∷ []) ≡ 1 ∷ 1 ∷ 1 ∷ []
+-- a grant and a revocation, which have one list of conditions
+abbrev both : ℕ → ℕ → ℕ → ℕ → List (Call × ℕ) → List (Call × ℕ)
+both right p s number rest = (Grant right (page p) (domain s), number) ∷ (Revoke right (page p) (domain s), number) ∷ rest
+
+-- a machine that is not sound: 1 before 2, 6, 13, 7 and 17
+pub not-sound-first :
+    Answers (node 9 User false)
+    ((Access 2 0, 1)
+    ∷ both 2 0 0 1
+    ((SetMask 0, 1)
+    ∷ (Enter, 1)
+    ∷ (Return, 1)
+    ∷ (Switch 0, 1)
+    ∷ (StoreField 2 (page 0) 0, 1)
+    ∷ (StoreContext 0, 1)
+    ∷ (StoreMask 0, 1)
+    ∷ (StoreMode 2, 1)
+    ∷ []))
 unfolding callOf isSound
 not-sound-first = refl
 
--- user mode, the flag clear, depth 0: 2 before 3, 2 before 4, 4 before 5, 5 before 11, 11 before 12, and then 12; 7 before 14,
--- 7 before 15 and 16; 2 before 4, 4 before 7, 17 before 7
+-- user mode, the flag clear, depth 0. Page 0 is held by domains 0 and 3 for READ and by none for WRITE, page 2 by 2 and 3 for READ; the local
+-- context has domains 0 and 1.
 pub user-order :
-    numbers (node 0 User false)
-    (Access 2 768
-    ∷ Grant 2 (page 3) (domain 3)
-    ∷ Grant 0 (page 3) (domain 16)
-    ∷ Grant 1 (page 0) (domain 16)
-    ∷ Grant 1 (page 0) (domain 0)
-    ∷ Grant 0 (page 0) (domain 0)
-    ∷ Return
-    ∷ Switch 2
-    ∷ StoreField 2 (page 3) 0
-    ∷ StoreField 0 (page 3) 0
-    ∷ StoreMode 2
-    ∷ [])
-    ≡ 2 ∷ 2 ∷ 4 ∷ 5 ∷ 11 ∷ 12 ∷ 7 ∷ 7 ∷ 2 ∷ 4 ∷ 17 ∷ []
+    Answers (node 0 User false)
+    ((Access 2 768, 2)
+    ∷ (Access 0 768, 3)
+    ∷ (Access 1 767, 9)
+    ∷ (Access 0 255, 0)
+    ∷ (Access 0 256, 0)
+    ∷ (Access 0 512, 9)
+    ∷ both 2 3 3 2
+    (both 0 3 16 4
+    (both 1 0 16 5
+    (both 1 0 0 11
+    (both 0 2 2 11
+    (both 0 0 0 12
+    (both 0 0 15 0
+    ((SetMask 0, 0)
+    ∷ (Enter, 0)
+    ∷ (Return, 7)
+    ∷ (Switch 2, 7)
+    ∷ (StoreField 2 (page 3) 0, 2)
+    ∷ (StoreField 0 (page 3) 0, 4)
+    ∷ (StoreField 0 (page 0) 0, 7)
+    ∷ (StoreContext 0, 7)
+    ∷ (StoreMask 0, 7)
+    ∷ (StoreMode 2, 17)
+    ∷ (StoreMode 0, 7)
+    ∷ []))))))))
 unfolding callOf checksOf accessChecks commandChecks isSound prevailing domainBit trailingZeros
 user-order = refl
 
--- user mode, the flag set: 3 before 8, 8 before 9, 5 before 8, 8 before 11, and 8
+-- user mode, the flag set: 8 also where the access would be allowed
 pub pending-order :
-    numbers (node 0 User true)
-    (Access 1 768
-    ∷ Access 1 0
-    ∷ Grant 0 (page 0) (domain 16)
-    ∷ Grant 1 (page 0) (domain 0)
-    ∷ SetMask 0
-    ∷ [])
-    ≡ 3 ∷ 8 ∷ 5 ∷ 8 ∷ 8 ∷ []
+    Answers (node 0 User true)
+    ((Access 2 0, 2)
+    ∷ (Access 1 768, 3)
+    ∷ (Access 1 0, 8)
+    ∷ (Access 0 0, 8)
+    ∷ both 0 0 16 5
+    (both 1 0 0 8
+    (both 0 0 15 8
+    ((SetMask 0, 8) ∷ (Enter, 0) ∷ (StoreMask 0, 7) ∷ []))))
 unfolding callOf checksOf accessChecks commandChecks isSound prevailing domainBit trailingZeros
 pending-order = refl
 
--- privileged mode: an access that no field allows is allowed; 3 all the same; 5 before 6, 6 before 11; 14 at depth 0; 15 before 16
+-- privileged mode at depth 0: an access that no field allows is allowed, with 2 and 3 all the same
 pub privileged-order :
-    numbers (node 0 Privileged false)
-    (Access 1 0
-    ∷ Access 1 768
-    ∷ Grant 0 (page 0) (domain 16)
-    ∷ Grant 1 (page 0) (domain 0)
-    ∷ SetMask 0
-    ∷ Return
-    ∷ Switch 2
-    ∷ [])
-    ≡ 0 ∷ 3 ∷ 5 ∷ 6 ∷ 6 ∷ 14 ∷ 15 ∷ []
+    Answers (node 0 Privileged false)
+    ((Access 1 0, 0)
+    ∷ (Access 2 0, 2)
+    ∷ (Access 1 768, 3)
+    ∷ both 0 0 16 5
+    (both 1 0 0 6
+    (both 0 0 15 6
+    ((SetMask 0, 6)
+    ∷ (Enter, 0)
+    ∷ (Return, 14)
+    ∷ (Switch 2, 15)
+    ∷ (StoreField 2 (page 0) 0, 2)
+    ∷ (StoreField 0 (page 3) 0, 4)
+    ∷ (StoreField 0 (page 0) 0, 0)
+    ∷ (StoreContext 0, 0)
+    ∷ (StoreMask 0, 0)
+    ∷ (StoreMode 2, 17)
+    ∷ (StoreMode 1, 0)
+    ∷ []))))
 unfolding callOf checksOf accessChecks commandChecks isSound prevailing domainBit trailingZeros
 privileged-order = refl
 
--- the ends of the stack: 16 at depth 1; 13 at depth 8 and not below it; 15 above depth 1
+-- the ends of the stack: a switch at depth 1 alone, an entry below depth 8 alone
 pub depth-order :
-    numbers (node 1 Privileged false) (Switch 2 ∷ Switch 1 ∷ []) ++ numbers (node 7 User false) (Enter ∷ [])
-    ++ numbers (node 8 Privileged false) (Enter ∷ Switch 1 ∷ Return ∷ [])
-    ≡ 16 ∷ 0 ∷ 0 ∷ 13 ∷ 15 ∷ 0 ∷ []
+    (Answers (node 1 Privileged false) ((Switch 2, 16) ∷ (Switch 1, 0) ∷ (Switch 0, 0) ∷ []))
+    × (Answers (node 7 User false) ((Enter, 0) ∷ []))
+    × (Answers (node 8 Privileged false) ((Enter, 13) ∷ (Switch 1, 15) ∷ (Return, 0) ∷ []))
 unfolding callOf checksOf isSound
-depth-order = refl
+depth-order = (refl, refl, refl)
 
 -- the prevailing domain is found in the whole field: page 2 is held by domains 2 and 3 for READ, a local context of domain 3 alone
 -- does not let it pass the right on, and one of domain 2 does
 pub whole-field :
-    numbers (withRegisters (record { context = 12; mask = 8; mode = User; pending = false }) (node 0 User false))
-    (Access 0 512 ∷ Grant 0 (page 2) (domain 4) ∷ [])
-    ++ numbers (withRegisters (record { context = 12; mask = 4; mode = User; pending = false }) (node 0 User false))
-    (Grant 0 (page 2) (domain 4) ∷ Grant 0 (page 2) (domain 2) ∷ Grant 0 (page 2) (domain 15) ∷ [])
-    ≡ 0 ∷ 11 ∷ 0 ∷ 12 ∷ 0 ∷ []
+    (Answers (withRegisters (live 12 8 User false) (node 0 User false)) ((Access 0 512, 0) ∷ both 0 2 4 11 []))
+    × (Answers (withRegisters (live 12 4 User false) (node 0 User false)) (both 0 2 4 0 (both 0 2 2 12 (both 0 2 15 0 []))))
 unfolding callOf checksOf accessChecks commandChecks isSound prevailing domainBit trailingZeros
-whole-field = refl
+whole-field = (refl, refl)
+
+-- pages of 32 bytes: the page of an address goes by the page size
+pub small-pages :
+    Answers (paged 5 figure (live 7 3 User false) 0 (stack User User) 0 (table (stored 7 3 User) (stored 8 65535 User)))
+    ((Access 0 31, 0) ∷ (Access 0 64, 9) ∷ (Access 0 95, 9) ∷ (Access 0 96, 3) ∷ [])
+unfolding callOf checksOf accessChecks isSound
+small-pages = refl
+
+-- a machine, a call that is made on it, and the machine after it
+abbrev Effects : List (Machine × Call × Machine) → Type 0
+Effects rows = map (λ row. callOf (row .0) (row .1) .machine) rows ≡ map (λ row. row .2) rows
+
+-- in user mode: an allowed access, a violation, and the commands
+abbrev user : List ℕ → Registers → Machine
+user fields registers = written fields registers 0 (stack User User) 0 (table (stored 7 3 User) (stored 8 65535 User))
+
+pub user-effects :
+    let before = user figure (live 7 3 User false) in
+    Effects
+    ((before, Access 0 0, before)
+    ∷ (before, Access 1 0, user figure (live 7 3 User true))
+    ∷ (before, Grant 0 (page 1) (domain 4), user (fieldsOf 9 0 26 2 12 4) (live 7 3 User false))
+    ∷ (before, Grant 1 (page 1) (domain 3), user (fieldsOf 9 0 10 10 12 4) (live 7 3 User false))
+    ∷ (before, Grant 0 (page 1) (domain 3), before)
+    ∷ (before, Revoke 0 (page 1) (domain 3), user (fieldsOf 9 0 2 2 12 4) (live 7 3 User false))
+    ∷ (before, Revoke 0 (page 1) (domain 4), before)
+    ∷ (before, SetMask 65528, user figure (live 7 65528 User false))
+    ∷ [])
+unfolding callOf checksOf accessChecks commandChecks effectOf after isSound prevailing domainBit trailingZeros
+user-effects = refl
+
+-- entry saves the mode and return restores it, at any depth
+pub stack-effects :
+    Effects
+    ((saving User true 0 (stack User User), Enter, saving Privileged false 1 (stack User User))
+    ∷ (saving Privileged false 0 (stack User User), Enter, saving Privileged false 1 (stack Privileged User))
+    ∷ (saving Privileged false 1 (stack User User), Enter, saving Privileged false 2 (stack User Privileged))
+    ∷ (saving Privileged false 2 (stack User Privileged), Return, saving Privileged false 1 (stack User User))
+    ∷ (saving Privileged false 1 (stack User Privileged), Return, saving User false 0 (stack User Privileged))
+    ∷ (saving Privileged false 1 (stack Privileged User), Return, saving Privileged false 0 (stack User User))
+    ∷ [])
+unfolding callOf checksOf effectOf entered returned after isSound
+stack-effects = refl
+
+-- the switch, to another program and to the current one, and the kernel's stores
+abbrev kernel : List ℕ → Registers → ℕ → Mode → Program → Machine
+kernel fields registers current interrupted entry =
+    written fields registers 1 (stack interrupted Privileged) current (table entry (stored 8 65535 Privileged))
+
+pub kernel-effects :
+    let entry = stored 1 2 Privileged in
+    let before = kernel figure (live 7 3 Privileged false) 0 User entry in
+    Effects
+    ((before, Switch 1, kernel figure (live 8 65535 Privileged false) 1 Privileged (stored 7 3 User))
+    ∷ (before, Switch 0, kernel figure (live 7 3 Privileged false) 0 User (stored 7 3 User))
+    ∷ (before, StoreField 1 (page 2) 65280, kernel (fieldsOf 9 0 10 2 12 65280) (live 7 3 Privileged false) 0 User entry)
+    ∷ (before, StoreField 0 (page 0) 0, kernel (fieldsOf 0 0 10 2 12 4) (live 7 3 Privileged false) 0 User entry)
+    ∷ (before, StoreContext 65280, kernel figure (live 65280 3 Privileged false) 0 User entry)
+    ∷ (before, StoreMask 65280, kernel figure (live 7 65280 Privileged false) 0 User entry)
+    ∷ (before, StoreMode 0, kernel figure (live 7 3 User false) 0 User entry)
+    ∷ (before, StoreMode 1, before)
+    ∷ [])
+unfolding callOf checksOf effectOf switched after isSound
+kernel-effects = refl

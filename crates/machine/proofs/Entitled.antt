@@ -1,16 +1,16 @@
--- What an accepted grant or revocation says of the machine: its conditions, none of which was met, one by one.
+-- When a grant or a revocation is accepted: exactly where none of its conditions is met, here one by one.
 use Prim.Native.Nat.{ℕ, _≤_, _<_}
 use mathlib.Core.Path.{_≡_, refl}
 use mathlib.Core.Bool.{Bool, true, false, not, true≢false}
 use mathlib.Core.List.{[], _∷_}
-use borrow.Author.Tests.{ltb-true, leb-true, leb-false, not-false}
+use borrow.Author.Tests.{ltb-true, leb-true, leb-false, le-leb, lt-leb, lt-ltb, not-false}
 use lib.Dec.{ltb}
 use Rattle.rules.specs.Registers.{localContext}
 use Rattle.rules.specs.Domains.{holds, isDomain, prevailing, isOutside, isNotLower}
 use Rattle.rules.specs.Refusals.{_⇒_, pick}
 use Rattle.rules.specs.declared.domains.Prevailing.{Prevailing}
 use Rattle.rules.specs.declared.domains.Prevailing.the-variants.{Absent, At}
-use Rattle.machine.specs.Machine.{fieldOf}
+use Rattle.machine.specs.Machine.{isSound, fieldOf}
 use Rattle.machine.specs.Calls.{commandChecks, isRight, inPrivilegedMode, numberOf}
 use Rattle.machine.specs.declared.record.Machine.{Machine}
 use Rattle.machine.specs.declared.record.Page.{Page}
@@ -24,6 +24,8 @@ pub record Entitled (m : Machine) (right page s : ℕ) : Type 0 where
   pub right-known : right ≤ 1
   pub page-counted : page < m .pages
   pub domain-known : s < 16
+  pub in-user-mode : inPrivilegedMode m ≡ false
+  pub flag-clear : m .registers .pending ≡ false
   pub domain : ℕ
   pub prevails : prevailing (fieldOf m right page) ≡ At domain
   pub held : holds (localContext (m .registers)) domain ≡ true
@@ -50,19 +52,38 @@ module _ (m : Machine) (granting : Bool) (right : ℕ) (page : Page) (s : Domain
       let p₅ = none-met (isOutside (prevailing field) local) 11 c₆ (p₄ .1) refl in
       let p₆ = none-met (isNotLower (prevailing field) (s .0)) 12 [] (p₅ .1) refl in
       by-level (leb-true right 1 (not-false _ (p₀ .0))) (ltb-true (page .0) (m .pages) (not-false _ (p₁ .0)))
-      (ltb-true (s .0) 16 (not-false _ (p₂ .0))) (prevailing field) refl (p₅ .0) (p₆ .0)
+      (ltb-true (s .0) 16 (not-false _ (p₂ .0))) (p₃ .0) (p₄ .0) (prevailing field) refl (p₅ .0) (p₆ .0)
     where
-      by-level : right ≤ 1 → page .0 < m .pages → s .0 < 16 → (v : Prevailing) → prevailing (fieldOf m right (page .0)) ≡ v
+      by-level : right ≤ 1 → page .0 < m .pages → s .0 < 16 → inPrivilegedMode m ≡ false → m .registers .pending ≡ false
+          → (v : Prevailing) → prevailing (fieldOf m right (page .0)) ≡ v
           → isOutside v (localContext (m .registers)) ≡ false → isNotLower v (s .0) ≡ false → Entitled m right (page .0) (s .0)
-      by-level known counted below Absent e inside lower =
+      by-level known counted below user clear Absent e inside lower =
           absurd (true≢false inside)
-      by-level known counted below (At d) e inside lower =
+      by-level known counted below user clear (At d) e inside lower =
           record {
             right-known = known;
             page-counted = counted;
             domain-known = below;
+            in-user-mode = user;
+            flag-clear = clear;
             domain = d;
             prevails = e;
             held = not-false _ inside;
             lower = leb-false (s .0) d lower;
           }
+
+  pub entitles : isSound m ≡ true → Entitled m right (page .0) (s .0) → numberOf m (pick granting (Grant right page s) (Revoke right page s)) ≡ 0
+  unfolding commandChecks
+  entitles sound e =
+      rw (
+        sound,
+        change-checks m right page s granting,
+        le-leb right 1 (e .right-known),
+        lt-ltb (page .0) (m .pages) (e .page-counted),
+        lt-ltb (s .0) 16 (e .domain-known),
+        e .in-user-mode,
+        e .flag-clear,
+        e .prevails,
+        e .held,
+        lt-leb (s .0) (e .domain) (e .lower),
+      )

@@ -193,6 +193,29 @@ in-privileged-mode m h user = flag-clear (m .registers .pending) (inPrivilegedMo
 clear-calm : {pending : Bool} (mode : Mode) → pending ≡ false → pending && isPrivileged mode ≡ false
 clear-calm mode e = rw e
 
+-- "7 in user mode": a call that lists 7, which are return, switch and the kernel's stores, is accepted in privileged mode alone
+pub kernel-alone : (m : Machine) (call : Call) → isIn 7 (ownNumbers call) ≡ true → numberOf m call ≡ 0 → inPrivilegedMode m ≡ true
+unfolding checksOf
+kernel-alone m call lists n = split call lists (accepted m call n .1)
+  where
+    privileged : (rest : List Check) → first ((inUserMode m ⇒ 7) ∷ rest) ≡ 0 → inPrivilegedMode m ≡ true
+    privileged rest none = not-false (inPrivilegedMode m) (none-met (inUserMode m) 7 rest none refl .0)
+
+    split : (made : Call) → isIn 7 (ownNumbers made) ≡ true → first (checksOf m made) ≡ 0 → inPrivilegedMode m ≡ true
+    split (Access right address) h none = absurd (true≢false (sym h))
+    split (Grant right page s) h none = absurd (true≢false (sym h))
+    split (Revoke right page s) h none = absurd (true≢false (sym h))
+    split (SetMask bits) h none = absurd (true≢false (sym h))
+    split Enter h none = absurd (true≢false (sym h))
+    split Return h none = privileged _ none
+    split (Switch program) h none = privileged _ none
+    split (StoreField right page bits) h none =
+        let known = none-met (not (isRight right)) 2 _ none refl in
+        privileged [] (none-met (not (ltb (page .0) (m .pages))) 4 _ (known .1) refl .1)
+    split (StoreContext bits) h none = privileged [] none
+    split (StoreMask bits) h none = privileged [] none
+    split (StoreMode mode) h none = privileged [] (none-met (not (leb mode 1)) 17 ((inUserMode m ⇒ 7) ∷ []) none refl .1)
+
 -- the effect of an accepted call on a sound machine is a sound machine
 effect-sound : (m : Machine) (call : Call) → isSound m ≡ true → numberOf m call ≡ 0 → isSound (effectOf m call) ≡ true
 unfolding isSound checksOf effectOf entered returned switched

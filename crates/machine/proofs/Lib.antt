@@ -1,6 +1,7 @@
 pub mod Sound
 pub mod Answers
 pub mod LentFields
+pub mod Allowed
 pub mod Entitled
 pub mod Laws
 pub mod Readings

@@ -1,20 +1,46 @@
--- Entry, switch and return in a row, from depth 0 to a program in the table: none is refused, and what stands after them.
--- On a machine whose depth is written as 0 and whose stack as a list the three calls compute.
-use Prim.Native.Nat.{ℕ, _≤_, _<_}
+-- Entry and return in a row, at any depth below 8: the machine is back, its flag clear. Entry, switch and return in a row, from depth 0 to a
+-- program in the table: none is refused, and what stands after them; on a machine whose depth is written as 0 and whose stack as a list
+-- the three calls compute.
+use Prim.Native.Nat.{ℕ, _+_, _-_, _<_}
 use mathlib.Core.Path.{_≡_, refl, subst}
 use mathlib.Core.Bool.{true, false}
 use mathlib.Core.List.{List, [], _∷_}
-use borrow.Author.Tests.{lt-ltb}
+use borrow.Author.Tests.{lt-ltb, ne-eqb}
 use lib.ListN.{length, getD, set}
+use lib.Seq.{getD-set-same, set-set}
 use native.Mathlib.Omega.{arith}
+use Rattle.rules.specs.Registers.{withPending}
 use Rattle.rules.specs.declared.registers.Registers.{Registers}
 use Rattle.machine.specs.Machine.{isSound, noMode, noProgram, withStack, withRegisters, withPrograms}
-use Rattle.machine.specs.Calls.{callOf, checksOf, effectOf, after, entered, switched, returned}
+use Rattle.machine.specs.Calls.{callOf, numberOf, checksOf, effectOf, after, entered, switched, returned}
 use Rattle.machine.specs.declared.record.Machine.{Machine}
 use Rattle.machine.specs.declared.record.Saved.{Saved}
 use Rattle.machine.specs.declared.record.Program.{Program}
 use Rattle.machine.specs.declared.record.Call.the-variants.{Enter, Return, Switch}
-use Rattle.machine.proofs.Sound.{Sound, sound-facts, facts-sound}
+use Rattle.machine.proofs.Sound.{sound-facts, moved-sound}
+
+-- "Then the mode is saved, the mode becomes privileged, the flag clears.", "Then the last saved mode is restored and its place becomes user."
+pub record Interrupted (m : Machine) : Type 0 where
+  pub entry : callOf m Enter ≡ record { number = 0; machine = entered m }
+  pub return :
+      callOf (entered m) Return
+      ≡ record {
+        number = 0;
+        machine = withStack (m .depth) (set (m .saved) (m .depth) noMode) (withRegisters (withPending false (m .registers)) m);
+      }
+
+pub interrupted : (m : Machine) → isSound m ≡ true → m .depth < 8 → length (m .saved) ≡ 8 → Interrupted m
+unfolding callOf checksOf effectOf after entered returned
+interrupted m sound below long =
+    let s = sound-facts m sound in
+    let one = moved-sound m (entered m) (refl, refl, refl) sound (omega arith) (s .current-below) refl in
+    let place : Saved = record { mode = m .registers .mode } in
+    let number : numberOf (entered m) Return ≡ 0 = rw (one, ne-eqb (m .depth + 1) 0 (λ (none : m .depth + 1 ≡ 0). omega arith)) in
+    let top : m .depth + 1 - 1 ≡ m .depth = omega arith in
+    record {
+      entry = rw (sound, ne-eqb (m .depth) 8 (λ (full : m .depth ≡ 8). omega arith));
+      return = rw (number, top, getD-set-same (m .saved) (m .depth) place noMode (omega arith), set-set (m .saved) (m .depth) place noMode);
+    }
 
 -- the program table with the current program's entry as a switch would leave it
 abbrev pub entryOf : Registers → Program
@@ -39,24 +65,6 @@ pub record Turned (m : Machine) (program : ℕ) : Type 0 where
   pub return : callOf (switched (entered m) program) Return ≡ record { number = 0; machine = turned m program }
   pub sound : isSound (turned m program) ≡ true
 
--- a machine of the same shape, with the flag clear
-clear-sound : (m end : Machine) → Sound m → end .pages ≡ m .pages → end .exponent ≡ m .exponent → end .programs ≡ m .programs
-    → end .depth ≤ 8 → end .current < end .programs → end .registers .pending ≡ false → isSound end ≡ true
-clear-sound m end s pages exponent programs depth current clear =
-    facts-sound end (
-    record {
-      pages-least = rw pages (s .pages-least);
-      pages-most = rw pages (s .pages-most);
-      exponent-least = rw exponent (s .exponent-least);
-      exponent-most = rw exponent (s .exponent-most);
-      depth-most = depth;
-      programs-least = rw programs (s .programs-least);
-      programs-most = rw programs (s .programs-most);
-      memory-most = rw (pages, exponent) (s .memory-most);
-      current-below = current;
-      calm = rw clear refl;
-    })
-
 module _ (m : Machine) (top : Saved) (rest : List Saved) (program : ℕ) where
   -- the machine before, with its depth and stack written out
   abbrev start : Machine
@@ -66,13 +74,13 @@ module _ (m : Machine) (top : Saved) (rest : List Saved) (program : ℕ) where
   unfolding callOf checksOf effectOf after entered switched returned
   turned-start sound below =
       let s = sound-facts start sound in
-      let one = clear-sound start (entered start) s refl refl refl (omega arith) (s .current-below) refl in
-      let two = clear-sound start (switched (entered start) program) s refl refl refl (omega arith) below refl in
+      let one = moved-sound start (entered start) (refl, refl, refl) sound (omega arith) (s .current-below) refl in
+      let two = moved-sound start (switched (entered start) program) (refl, refl, refl) sound (omega arith) below refl in
       record {
         entry = rw sound;
         switch = rw (one, lt-ltb (m .current) (m .programs) (s .current-below), lt-ltb program (m .programs) below);
         return = rw two;
-        sound = clear-sound start (turned start program) s refl refl refl (omega arith) below refl;
+        sound = moved-sound start (turned start program) (refl, refl, refl) sound (omega arith) below refl;
       }
 
 pub turn-begins : (m : Machine) (program : ℕ) → isSound m ≡ true → m .depth ≡ 0 → 0 < length (m .saved) → program < m .programs
