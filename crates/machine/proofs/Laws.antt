@@ -207,11 +207,14 @@ kernel-alone m call lists n = split call lists (accepted m call n .1)
     split (Revoke right page s) h none = absurd (true≢false (sym h))
     split (SetMask bits) h none = absurd (true≢false (sym h))
     split Enter h none = absurd (true≢false (sym h))
-    split Return h none = privileged _ none
-    split (Switch program) h none = privileged _ none
+    split Return h none = privileged ((eqb (m .depth) 0 ⇒ 14) ∷ []) none
+    split (Switch program) h none =
+        privileged
+        ((not (ltb (m .current) (m .programs)) ⇒ 10) ∷ (not (eqb (m .depth) 1) ⇒ 15) ∷ (not (ltb program (m .programs)) ⇒ 16) ∷ []) none
     split (StoreField right page bits) h none =
-        let known = none-met (not (isRight right)) 2 _ none refl in
-        privileged [] (none-met (not (ltb (page .0) (m .pages))) 4 _ (known .1) refl .1)
+        let last = (inUserMode m ⇒ 7) ∷ [] in
+        let known = none-met (not (isRight right)) 2 ((not (ltb (page .0) (m .pages)) ⇒ 4) ∷ last) none refl in
+        privileged [] (none-met (not (ltb (page .0) (m .pages))) 4 last (known .1) refl .1)
     split (StoreContext bits) h none = privileged [] none
     split (StoreMask bits) h none = privileged [] none
     split (StoreMode mode) h none = privileged [] (none-met (not (leb mode 1)) 17 ((inUserMode m ⇒ 7) ∷ []) none refl .1)
