@@ -5,3 +5,4 @@ pub mod Rewritten
 pub mod RoundTrip
 pub mod Loaded
 pub mod Sample
+pub mod Order

@@ -1,9 +1,11 @@
 -- The third demand at the sample node (document 01, "Sample node"), computed from the definitions: what a history shows,
--- what is compared, and that the premise is met for program 0 and is missed, and needed, for program 1.
+-- what is compared, and that the premise is met for program 0 and is missed, and needed, for program 1. And that the premise asks for no
+-- more than it says.
 use Prim.Native.Nat.{ℕ, zero, suc, _≤_, _<_}
 use mathlib.Core.Path.{_≡_, refl, sym, ap, _∙_}
 use mathlib.Core.Bool.{true, false}
 use mathlib.Core.List.{List, [], _∷_, _++_, map}
+use lib.Bits.{and-zero-r}
 use lib.Count.{trailingZeros}
 use lib.ListN.{getD, replicate}
 use native.Mathlib.Omega.{arith}
@@ -11,6 +13,7 @@ use Rattle.rules.specs.Domains.{domainBit, holds, prevailing}
 use Rattle.rules.specs.declared.domains.Prevailing.the-variants.{At}
 use Rattle.rules.specs.declared.registers.Mode.{Mode}
 use Rattle.rules.specs.declared.registers.Mode.the-variants.{User, Privileged}
+use Rattle.rules.proofs.Laws.{no-domain-bit}
 use Rattle.machine.specs.Machine.{fieldOf, isSound, noMode, noProgram}
 use Rattle.machine.specs.Calls.{accessChecks, after, callOf, checksOf, commandChecks, effectOf, entered, returned, switched}
 use Rattle.machine.specs.declared.record.Machine.{Machine}
@@ -120,26 +123,27 @@ mixed-observed = refl
 
 -- ---- "The premise of the third demand is met for program 0."
 
--- program 1 holds domain 3 alone, which prevails nowhere
-prevails-not : (level domain : ℕ) → holds 0x0008 level ≡ false → At level ≡ At domain → holds 0x0008 domain ≡ true → ⊥
-prevails-not level domain lacks e held =
+-- a context without the prevailing domain does not hold it
+prevails-not : (context level domain : ℕ) → holds context level ≡ false → At level ≡ At domain → holds context domain ≡ true → ⊥
+prevails-not context level domain lacks e held =
     let same : level ≡ domain = cc in
-    let seen : true ≡ false = sym held ∙ ap (holds 0x0008) (sym same) ∙ lacks in
+    let seen : true ≡ false = sym held ∙ ap (holds context) (sym same) ∙ lacks in
     let never : _≡_ {A = ℕ} 0 1 = cc in
     omega arith
 
+-- program 1 holds domain 3 alone, which prevails nowhere
 nowhere : (right page domain : ℕ) → right ≤ 1 → page < 3 → prevailing (fieldOf sample right page) ≡ At domain
     → holds 0x0008 domain ≡ true → ⊥
 unfolding prevailing trailingZeros domainBit
-nowhere zero zero domain known counted prevails held = prevails-not 0 domain refl prevails held
-nowhere zero (suc zero) domain known counted prevails held = prevails-not 1 domain refl prevails held
-nowhere zero (suc (suc zero)) domain known counted prevails held = prevails-not 2 domain refl prevails held
+nowhere zero zero domain known counted prevails held = prevails-not 0x0008 0 domain refl prevails held
+nowhere zero (suc zero) domain known counted prevails held = prevails-not 0x0008 1 domain refl prevails held
+nowhere zero (suc (suc zero)) domain known counted prevails held = prevails-not 0x0008 2 domain refl prevails held
 nowhere zero (suc (suc (suc page))) domain known counted prevails held = omega arith
 nowhere (suc zero) zero domain known counted prevails held =
     let never : _≡_ {A = ℕ} 0 1 = cc in
     omega arith
-nowhere (suc zero) (suc zero) domain known counted prevails held = prevails-not 1 domain refl prevails held
-nowhere (suc zero) (suc (suc zero)) domain known counted prevails held = prevails-not 2 domain refl prevails held
+nowhere (suc zero) (suc zero) domain known counted prevails held = prevails-not 0x0008 1 domain refl prevails held
+nowhere (suc zero) (suc (suc zero)) domain known counted prevails held = prevails-not 0x0008 2 domain refl prevails held
 nowhere (suc zero) (suc (suc (suc page))) domain known counted prevails held = omega arith
 nowhere (suc (suc right)) page domain known counted prevails held = omega arith
 
@@ -180,6 +184,42 @@ not-isolated-one isolated =
     let same = differ isolated in
     let never : _≡_ {A = ℕ} 0 9 = cc in
     omega arith
+
+-- ---- a premise that is met although the chosen program shares a prevailing domain with another
+
+-- one page, held by domains 0 and 1 for READ and by 15 for WRITE; program 0 holds domains 1 and 15, and program 1 domains 0 and 15
+abbrev sharing : Machine
+sharing =
+    record {
+      pages = 1;
+      exponent = 8;
+      fields = (0x0003 ∷ 0x8000 ∷ []) ++ replicate 254 0;
+      registers = record { context = 0x8002; mask = 0xFFFF; mode = User; pending = false };
+      depth = 0;
+      saved = replicate 8 noMode;
+      programs = 2;
+      current = 0;
+      table =
+          record { context = 0x8002; mask = 0xFFFF; mode = User }
+          ∷ record { context = 0x8001; mask = 0xFFFF; mode = User }
+          ∷ replicate 6 noProgram;
+    }
+
+none-lower : (context lower : ℕ) → 16 ≤ lower → holds context lower ≡ false
+none-lower context lower past = rw (no-domain-bit lower past, and-zero-r context)
+
+-- program 0 prevails by domain 15, on WRITE alone, and there is no lower level; its domain 1 prevails nowhere
+apart-sharing : Apart sharing 1
+unfolding Apart prevailing trailingZeros domainBit
+apart-sharing (suc zero) right page domain lower below differs known counted prevails held less = absurd (differs refl)
+apart-sharing (suc (suc other)) right page domain lower below differs known counted prevails held less = absurd (omega arith)
+apart-sharing zero right (suc page) domain lower below differs known counted prevails held less = absurd (omega arith)
+apart-sharing zero (suc (suc right)) zero domain lower below differs known counted prevails held less = absurd (omega arith)
+apart-sharing zero zero zero domain lower below differs known counted prevails held less =
+    absurd (prevails-not 0x8002 0 domain refl prevails held)
+apart-sharing zero (suc zero) zero domain lower below differs known counted prevails held less =
+    let last : 15 ≡ domain = cc in
+    none-lower 0x8001 lower (omega arith)
 
 -- ---- a program alone in the table and stored in privileged mode: its accesses are allowed, its commands answer 6
 abbrev lone : Machine

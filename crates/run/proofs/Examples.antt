@@ -1,8 +1,9 @@
 -- Computed examples: each kind of record with parts that differ, and the sample node's answers, from document 01.
 use Prim.Native.Nat.{ℕ}
-use mathlib.Core.Path.{_≡_, refl}
-use mathlib.Core.List.{List, [], _∷_, _++_}
+use mathlib.Core.Path.{_≡_, refl, ap}
+use mathlib.Core.List.{List, [], _∷_, _++_, map}
 use lib.Count.{trailingZeros}
+use lib.ListN.{length, drop, replicate}
 use Rattle.rules.specs.Domains.{domainBit, prevailing}
 use Rattle.image.specs.Description.{machineOf}
 use Rattle.image.specs.Load.{loadOf, loadChecks, lengthTests, kindTests, shapeEntryTests, shapeTests, bodyTests, describe}
@@ -11,7 +12,7 @@ use Rattle.machine.specs.Machine.{isSound}
 use Rattle.machine.specs.Calls.{callOf, checksOf, accessChecks, commandChecks, effectOf, entered, returned, switched, after}
 use Rattle.machine.specs.declared.record.Call.the-variants.{Access, Grant, Revoke, SetMask, Enter, Return, Switch, StoreField, StoreContext, StoreMask, StoreMode}
 use Rattle.run.specs.Records.{callOfKind, callsOf, stepOf, asPage, asDomain}
-use Rattle.run.specs.Run.{answersFrom, answersOf, callAnswers}
+use Rattle.run.specs.Run.{answersFrom, answersOf, callAnswers, sent}
 use Rattle.run.specs.declared.records.Decoded.the-variants.{Known, Unknown}
 
 -- a record of a kind, with right 1, A = 0x0203 and B = 0x0405
@@ -59,3 +60,32 @@ sampleInput =
 pub sample-answered : answersOf sampleInput ≡ 0 ∷ 0 ∷ 9 ∷ 8 ∷ 0 ∷ 0 ∷ 0 ∷ 0 ∷ 9 ∷ []
 unfolding sampleInput sampleBytes callAnswers answersFrom callsOf callOfKind stepOf loadOf loadChecks lengthTests kindTests shapeEntryTests shapeTests bodyTests describe machineOf callOf checksOf accessChecks commandChecks effectOf entered returned switched after isSound prevailing domainBit trailingZeros
 sample-answered = refl
+
+-- "a remainder is passed over"
+pub remainder-answered : answersOf (sampleInput ++ 0x01 ∷ []) ≡ 0 ∷ 0 ∷ 9 ∷ 8 ∷ 0 ∷ 0 ∷ 0 ∷ 0 ∷ 9 ∷ []
+unfolding sampleInput sampleBytes callAnswers answersFrom callsOf callOfKind stepOf loadOf loadChecks lengthTests kindTests shapeEntryTests shapeTests bodyTests describe machineOf callOf checksOf accessChecks commandChecks effectOf entered returned switched after isSound prevailing domainBit trailingZeros
+remainder-answered = refl
+
+-- "A record is read as one of eleven calls or answered 18.", and then leaves the machine alone: the access after it is allowed. "that many image
+-- bytes (fewer if the input ends)", "Input under 2 bytes counts as an empty image", "After a refused load that one answer is all there is."
+ends-answered :
+    map answersOf
+    ((0x00 ∷ 0x2C ∷ (sampleBytes ++ (0x0C ∷ 0x00 ∷ 0x00 ∷ 0x00 ∷ 0x00 ∷ 0x00 ∷ 0x01 ∷ 0x00 ∷ 0x00 ∷ 0x00 ∷ 0x00 ∷ 0x10 ∷ [])))
+    ∷ (0x00 ∷ 0x2D ∷ sampleBytes)
+    ∷ (0x00 ∷ 0x2B ∷ (sampleBytes ++ (0x05 ∷ 0x00 ∷ 0x00 ∷ 0x00 ∷ 0x00 ∷ [])))
+    ∷ (0x00 ∷ [])
+    ∷ []
+    ∷ [])
+    ≡ (0 ∷ 18 ∷ 0 ∷ []) ∷ (0 ∷ []) ∷ (24 ∷ []) ∷ (20 ∷ []) ∷ (20 ∷ []) ∷ []
+unfolding sampleBytes callAnswers answersFrom callsOf callOfKind stepOf loadOf loadChecks lengthTests kindTests shapeEntryTests shapeTests bodyTests describe machineOf callOf checksOf accessChecks commandChecks effectOf entered returned switched after isSound prevailing domainBit trailingZeros
+ends-answered = refl
+
+-- "If the buffer is too short for all of them, .. the count is 0": the sample's nine answers in buffers about as long
+room-sent : map (sent sampleInput) (0 ∷ 8 ∷ 9 ∷ 10 ∷ []) ≡ [] ∷ [] ∷ answersOf sampleInput ∷ answersOf sampleInput ∷ []
+unfolding sent sampleInput sampleBytes
+room-sent = rw (ap (λ (l : List ℕ). drop 1 l) sample-answered)
+
+-- "the input is above 32,768 bytes"
+long-sent : map (λ (n : ℕ). length (sent (replicate n 0) 1)) (32768 ∷ 32769 ∷ []) ≡ 1 ∷ 0 ∷ []
+unfolding sent callAnswers loadOf loadChecks lengthTests kindTests
+long-sent = refl
