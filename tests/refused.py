@@ -3,22 +3,31 @@
 
 Usage: refused.py   (from the repository's root, after `rt ci` or `rt must-fail`)
 An edit names them in a line '# Refused: NAME ..'. A function is refused by itself where an error stands in its own proof file, or
-where the search that proves it without one finds nothing; a law where an error stands in it. An error that only says that something
-below was not admitted does not count, and neither does one that says that a proof no longer fits the code's shape.
+where the search that proves it without one finds nothing; a law where an error stands in it. Only an error that says that a fact fails
+counts: two sides that differ, a goal that does not follow, one that no search proves, or one without the term that an equation of the
+proof rewrites. That something below was not admitted does not, and where a proof no longer fits the code's shape nothing counts.
 """
 import pathlib
 import re
 import sys
 
-BELOW = 'was not admitted'
+FACT = (
+    'the two types',
+    'expected type',
+    'give a proof of that as the last argument',
+    'the goal does not follow',
+    'the missing equation',
+    'no proof of',
+    'no occurrence of',
+    '≟',
+)
 SHAPE = ('that can be named from here', 'not in scope', 'has no field', 'has no `Need-')
 NAMES = re.compile(r'^# Refused: (.+)$', re.M)
 
 
-def facts(errors):
-    """Whether one of these errors is a fact that fails, and none of them a shape that does not fit."""
-    own = [error for error in errors if BELOW not in error]
-    return bool(own) and not any(word in error for error in own for word in SHAPE)
+def says(errors, words):
+    """Whether one of these errors has one of these words."""
+    return any(word in error for error in errors for word in words)
 
 
 def refused(log, name):
@@ -27,7 +36,8 @@ def refused(log, name):
         return True
     place = rf'/{name}/Proof\.antt' if re.search(rf'^fn \S*::{name}: ', log, re.M) else r'/[A-Z]\w*\.antt'
     law = r'\S+' if 'Proof' in place else name
-    return facts(re.findall(rf'{place}:\d+:\d+: error: `{law}`: (.*)', log))
+    errors = re.findall(rf'{place}:\d+:\d+: error: `{law}`: (.*)', log)
+    return says(errors, FACT) and not says(errors, SHAPE)
 
 
 def main():

@@ -15,7 +15,7 @@ use Rattle.rules.specs.declared.registers.Mode.{Mode}
 use Rattle.rules.specs.declared.registers.Mode.the-variants.{User, Privileged}
 use Rattle.rules.proofs.Laws.{no-domain-bit}
 use Rattle.machine.specs.Machine.{fieldOf, isSound, noMode, noProgram}
-use Rattle.machine.specs.Calls.{accessChecks, after, callOf, checksOf, commandChecks, effectOf, entered, returned, switched}
+use Rattle.machine.specs.Calls.{accessChecks, after, callOf, checksOf, changeChecks, effectOf, entered, returned, switched}
 use Rattle.machine.specs.declared.record.Machine.{Machine}
 use Rattle.machine.specs.declared.record.Page.{Page}
 use Rattle.machine.specs.declared.record.Domain.{Domain}
@@ -118,7 +118,7 @@ mixed-observed : observed sample 0 mixed
     ∷ shown 0 plain plain
     ∷ shown 0 plain plain
     ∷ []
-unfolding observed observedFrom rightsOf callOf checksOf accessChecks commandChecks effectOf entered switched returned after isSound domainBit prevailing trailingZeros
+unfolding observed observedFrom rightsOf callOf checksOf accessChecks changeChecks effectOf entered switched returned after isSound domainBit prevailing trailingZeros
 mixed-observed = refl
 
 -- ---- "The premise of the third demand is met for program 0."
@@ -174,7 +174,7 @@ abbrev numbers : List Observation → List ℕ
 numbers = map (λ (o : Observation). o .number)
 
 differ : Isolated sample 1 → _≡_ {A = List ℕ} (0 ∷ 0 ∷ 0 ∷ 0 ∷ []) (0 ∷ 0 ∷ 0 ∷ 9 ∷ [])
-unfolding Isolated observed observedFrom rightsOf callOf checksOf accessChecks commandChecks effectOf entered switched returned after isSound domainBit prevailing trailingZeros
+unfolding Isolated observed observedFrom rightsOf callOf checksOf accessChecks changeChecks effectOf entered switched returned after isSound domainBit prevailing trailingZeros
 differ isolated =
     let revoking = revoke 0 (page 0) (domain 3) ∷ [] in
     ap numbers (isolated (reading []) (reading revoking) ((omega arith), tt) ((omega arith), tt) refl)
@@ -246,5 +246,5 @@ lone-observed : observed lone 0 itself
     ∷ shown 0 plain plain
     ∷ shown 6 plain plain
     ∷ []
-unfolding observed observedFrom rightsOf callOf checksOf accessChecks commandChecks effectOf entered switched returned after isSound domainBit prevailing trailingZeros
+unfolding observed observedFrom rightsOf callOf checksOf accessChecks changeChecks effectOf entered switched returned after isSound domainBit prevailing trailingZeros
 lone-observed = refl

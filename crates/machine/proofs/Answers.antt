@@ -13,7 +13,7 @@ use Rattle.rules.specs.Domains.{prevailing, withBit, withoutBit}
 use Rattle.rules.specs.Refusals.{Check, _⇒_, first, pick}
 use Rattle.rules.specs.declared.registers.Registers.{Registers}
 use Rattle.machine.specs.Machine.{isSound, fieldOf, placeOf, withFields, withRegisters, withStack, withPrograms}
-use Rattle.machine.specs.Calls.{callOf, changeCall, checksOf, commandChecks, effectOf, inUserMode, numberOf, after, violated}
+use Rattle.machine.specs.Calls.{callOf, changeCall, checksOf, changeChecks, effectOf, inUserMode, numberOf, after, violated}
 use Rattle.machine.specs.declared.record.Machine.{Machine}
 use Rattle.machine.specs.declared.record.Saved.{Saved}
 use Rattle.machine.specs.declared.record.Program.{Program}
@@ -132,7 +132,7 @@ store-answered m call {n} {fields} {field} {bits} at new read number never effec
 -- grant and revoke have one list of conditions, and effects that differ in the bit operation alone
 module _ (m : Machine) (right : ℕ) (page : Page) (s : Domain) where
   pub change-checks : (granting : Bool)
-      → checksOf m (changeCall granting right page s) ≡ commandChecks m right page s (prevailing (fieldOf m right (page .0)))
+      → checksOf m (changeCall granting right page s) ≡ changeChecks m right page s (prevailing (fieldOf m right (page .0)))
   unfolding checksOf
   change-checks true = refl
   change-checks false = refl
@@ -145,17 +145,17 @@ module _ (m : Machine) (right : ℕ) (page : Page) (s : Domain) where
   change-effect false = refl
 
   pub change-avoids : (granting : Bool) → avoids 9 (checksOf m (changeCall granting right page s)) ≡ true
-  unfolding commandChecks
+  unfolding changeChecks
   change-avoids granting = rw (change-checks granting)
 
   -- a grant or a revocation, from what its code read, worked out and stored
   pub change-answered : (granting : Bool) {n : ℕ} {fields : List ℕ} {field at bits : ℕ}
       → field ≡ getD (m .fields) at 0 → at ≡ placeOf right (page .0)
-      → n ≡ pick (not (isSound m)) 1 (first (commandChecks m right page s (prevailing field)))
+      → n ≡ pick (not (isSound m)) 1 (first (changeChecks m right page s (prevailing field)))
       → bits ≡ pick (eqb n 0) (pick granting (withBit field (s .0)) (withoutBit field (s .0))) field → fields ≡ set (m .fields) at bits
       → _≡_ {A = Answered} (record { number = n; machine = withFields fields m })
       (callOf m (changeCall granting right page s))
-  unfolding commandChecks
+  unfolding changeChecks
   change-answered granting {n} {fields} {field} {at} {bits} read place number chosen written =
       let call = changeCall granting right page s in
       store-answered m call at _ read (rw (change-checks granting) (number ∙ rw (read, place))) (change-avoids granting)

@@ -11,7 +11,7 @@ use Rattle.rules.specs.declared.registers.Registers.{Registers}
 use lib.Count.{trailingZeros}
 use Rattle.rules.specs.Domains.{prevailing, domainBit}
 use Rattle.machine.specs.Machine.{isSound, zero, noMode, noProgram, withRegisters}
-use Rattle.machine.specs.Calls.{callOf, checksOf, accessChecks, commandChecks, effectOf, entered, returned, switched, after}
+use Rattle.machine.specs.Calls.{callOf, checksOf, accessChecks, changeChecks, effectOf, entered, returned, switched, after}
 use Rattle.machine.specs.declared.record.Machine.{Machine}
 use Rattle.machine.specs.declared.record.Saved.{Saved}
 use Rattle.machine.specs.declared.record.Program.{Program}
@@ -128,7 +128,7 @@ pub user-order :
     ∷ (StoreMode 2, 17)
     ∷ (StoreMode 0, 7)
     ∷ []))))))))
-unfolding callOf checksOf accessChecks commandChecks isSound prevailing domainBit trailingZeros
+unfolding callOf checksOf accessChecks changeChecks isSound prevailing domainBit trailingZeros
 user-order = refl
 
 -- user mode, the flag set: 8 also where the access would be allowed
@@ -142,7 +142,7 @@ pub pending-order :
     (both 1 0 0 8
     (both 0 0 15 8
     ((SetMask 0, 8) ∷ (Enter, 0) ∷ (StoreMask 0, 7) ∷ []))))
-unfolding callOf checksOf accessChecks commandChecks isSound prevailing domainBit trailingZeros
+unfolding callOf checksOf accessChecks changeChecks isSound prevailing domainBit trailingZeros
 pending-order = refl
 
 -- privileged mode at depth 0: an access that no field allows is allowed, with 2 and 3 all the same
@@ -166,7 +166,7 @@ pub privileged-order :
     ∷ (StoreMode 2, 17)
     ∷ (StoreMode 1, 0)
     ∷ []))))
-unfolding callOf checksOf accessChecks commandChecks isSound prevailing domainBit trailingZeros
+unfolding callOf checksOf accessChecks changeChecks isSound prevailing domainBit trailingZeros
 privileged-order = refl
 
 -- the ends of the stack: a switch at depth 1 alone, an entry below depth 8 alone
@@ -182,7 +182,7 @@ depth-order = (refl, refl, refl)
 pub whole-field :
     (Answers (withRegisters (live 12 8 User false) (node 0 User false)) ((Access 0 512, 0) ∷ both 0 2 4 11 []))
     × (Answers (withRegisters (live 12 4 User false) (node 0 User false)) (both 0 2 4 0 (both 0 2 2 12 (both 0 2 15 0 []))))
-unfolding callOf checksOf accessChecks commandChecks isSound prevailing domainBit trailingZeros
+unfolding callOf checksOf accessChecks changeChecks isSound prevailing domainBit trailingZeros
 whole-field = (refl, refl)
 
 -- pages of 32 bytes: the page of an address goes by the page size
@@ -212,7 +212,7 @@ pub user-effects :
     ∷ (before, Revoke 0 (page 1) (domain 4), before)
     ∷ (before, SetMask 65528, user figure (live 7 65528 User false))
     ∷ [])
-unfolding callOf checksOf accessChecks commandChecks effectOf after isSound prevailing domainBit trailingZeros
+unfolding callOf checksOf accessChecks changeChecks effectOf after isSound prevailing domainBit trailingZeros
 user-effects = refl
 
 -- entry saves the mode and return restores it, at any depth

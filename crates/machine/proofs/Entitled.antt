@@ -11,7 +11,7 @@ use Rattle.rules.specs.Refusals.{_⇒_, pick}
 use Rattle.rules.specs.declared.domains.Prevailing.{Prevailing}
 use Rattle.rules.specs.declared.domains.Prevailing.the-variants.{Absent, At}
 use Rattle.machine.specs.Machine.{isSound, fieldOf}
-use Rattle.machine.specs.Calls.{commandChecks, isRight, inPrivilegedMode, numberOf}
+use Rattle.machine.specs.Calls.{changeChecks, isRight, inPrivilegedMode, numberOf}
 use Rattle.machine.specs.declared.record.Machine.{Machine}
 use Rattle.machine.specs.declared.record.Page.{Page}
 use Rattle.machine.specs.declared.record.Domain.{Domain}
@@ -33,7 +33,7 @@ pub record Entitled (m : Machine) (right page s : ℕ) : Type 0 where
 
 module _ (m : Machine) (granting : Bool) (right : ℕ) (page : Page) (s : Domain) where
   pub entitled : numberOf m (pick granting (Grant right page s) (Revoke right page s)) ≡ 0 → Entitled m right (page .0) (s .0)
-  unfolding commandChecks
+  unfolding changeChecks
   entitled h =
       let field = fieldOf m right (page .0) in
       let local = localContext (m .registers) in
@@ -73,7 +73,7 @@ module _ (m : Machine) (granting : Bool) (right : ℕ) (page : Page) (s : Domain
           }
 
   pub entitles : isSound m ≡ true → Entitled m right (page .0) (s .0) → numberOf m (pick granting (Grant right page s) (Revoke right page s)) ≡ 0
-  unfolding commandChecks
+  unfolding changeChecks
   entitles sound e =
       rw (
         sound,

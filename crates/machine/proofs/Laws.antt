@@ -13,7 +13,7 @@ use Rattle.rules.specs.Registers.{isPrivileged, localContext}
 use Rattle.rules.specs.Refusals.{Check, _⇒_, first, pick}
 use Rattle.rules.specs.declared.registers.Mode.{Mode}
 use Rattle.machine.specs.Machine.{isSound, memorySize, fieldOf, placeOf, noMode, noProgram}
-use Rattle.machine.specs.Calls.{callOf, checksOf, accessChecks, commandChecks, effectOf, entered, returned, switched, inPrivilegedMode, inUserMode, isRight, modeOf, numberOf, pageOf, after, violated}
+use Rattle.machine.specs.Calls.{callOf, checksOf, accessChecks, changeChecks, effectOf, entered, returned, switched, inPrivilegedMode, inUserMode, isRight, modeOf, numberOf, pageOf, after, violated}
 use Rattle.machine.specs.Listed.{isIn, listed, ownNumbers, soundNumbers}
 use Rattle.machine.specs.declared.record.Machine.{Machine}
 use Rattle.machine.specs.declared.record.Page.{Page}
@@ -54,7 +54,7 @@ access-either P m right address h =
 
 -- a call's conditions answer its own numbers, or 0
 checks-within : (m : Machine) (call : Call) → within (0 ∷ ownNumbers call) (checksOf m call) ≡ true
-unfolding checksOf commandChecks
+unfolding checksOf changeChecks
 checks-within m (Access right address) =
     access-either (λ checks. within (0 ∷ ownNumbers (Access right address)) checks ≡ true) m right address
     (λ b₂ b₃ b₈ b₉. (refl, refl))
@@ -124,7 +124,7 @@ switch-given false false false = refl
 
 -- "10 if the current program has no entry in the table": a sound machine's has
 checks-given : (m : Machine) (call : Call) → isSound m ≡ true → isIn (first (checksOf m call)) soundNumbers ≡ true
-unfolding checksOf commandChecks
+unfolding checksOf changeChecks
 checks-given m (Access right address) s =
     first-within soundNumbers (checksOf m (Access right address))
     (access-either (λ checks. within soundNumbers checks ≡ true) m right address (λ b₂ b₃ b₈ b₉. (refl, refl)))
@@ -153,7 +153,7 @@ unfolding callOf after
 refusal-unchanged m call refused = rw (ne-eqb (numberOf m call) 0 refused)
 
 privileged-never-nine : (m : Machine) (call : Call) → inPrivilegedMode m ≡ true → avoids 9 (checksOf m call) ≡ true
-unfolding checksOf accessChecks commandChecks
+unfolding checksOf accessChecks changeChecks
 privileged-never-nine m (Access right address) e = rw e
 privileged-never-nine m (Grant right page s) e = refl
 privileged-never-nine m (Revoke right page s) e = refl

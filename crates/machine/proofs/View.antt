@@ -17,7 +17,7 @@ use Rattle.rules.specs.declared.domains.Prevailing.{Prevailing}
 use Rattle.rules.specs.declared.domains.Prevailing.the-variants.{At}
 use Rattle.rules.proofs.Bits.{and-assoc, unseen, seen-alike, local-held, unmoved}
 use Rattle.machine.specs.Machine.{isSound, memorySize, placeOf, fieldOf, withFields, withRegisters}
-use Rattle.machine.specs.Calls.{callOf, checksOf, accessChecks, commandChecks, effectOf, isRight, inPrivilegedMode, numberOf, pageOf, violated}
+use Rattle.machine.specs.Calls.{callOf, checksOf, accessChecks, changeChecks, effectOf, isRight, inPrivilegedMode, numberOf, pageOf, violated}
 use Rattle.machine.specs.declared.record.Machine.{Machine}
 use Rattle.machine.specs.declared.record.Page.{Page}
 use Rattle.machine.specs.declared.record.Domain.{Domain}
@@ -220,7 +220,7 @@ module _ {context : ℕ} {m n : Machine} (a : Alike context m n) where
         ∙ and-assoc (getD (n .fields) at 0) context mask)
 
     pub alike-number : {call : Call} → IsCommand call → numberOf m call ≡ numberOf n call
-    unfolding checksOf accessChecks commandChecks
+    unfolding checksOf accessChecks changeChecks
     alike-number (an-access right address) =
         rw (sound, sound′, a .exponent, a .pages, judged (placeOf right (pageOf n address)), a .registers)
     alike-number (a-change granting right page s) =

@@ -47,8 +47,8 @@ accessChecks m right address field =
 -- "Grant and revoke (right, page, domain s). .. 4 if the page is not below the page count; 5 if s is above 15; 6 in
 -- privileged mode; 8 if the flag is set; 11 if the prevailing domain is absent or outside the local context; 12 if s is
 -- not greater than the prevailing domain."
-unfoldable pub commandChecks : Machine → ℕ → Page → Domain → Prevailing → List Check
-commandChecks m right page s prevails =
+unfoldable pub changeChecks : Machine → ℕ → Page → Domain → Prevailing → List Check
+changeChecks m right page s prevails =
     (not (isRight right) ⇒ 2)
     ∷ (not (ltb (page .0) (m .pages)) ⇒ 4)
     ∷ (not (isDomain (s .0)) ⇒ 5)
@@ -61,8 +61,8 @@ commandChecks m right page s prevails =
 -- the conditions of each call after the one for 1, in document 01's order
 unfoldable pub checksOf : Machine → Call → List Check
 checksOf m (Access right address) = accessChecks m right address (fieldOf m right (pageOf m address))
-checksOf m (Grant right page s) = commandChecks m right page s (prevailing (fieldOf m right (page .0)))
-checksOf m (Revoke right page s) = commandChecks m right page s (prevailing (fieldOf m right (page .0)))
+checksOf m (Grant right page s) = changeChecks m right page s (prevailing (fieldOf m right (page .0)))
+checksOf m (Revoke right page s) = changeChecks m right page s (prevailing (fieldOf m right (page .0)))
 -- "Mask command (16 bits). 1; 6 in privileged mode; 8."
 checksOf m (SetMask bits) = maskChecks (m .registers)
 -- "Interrupt entry. 1; 13 at depth 8."

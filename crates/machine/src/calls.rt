@@ -14,8 +14,8 @@ use crate::record::place;
 use crate::record::read_field;
 use crate::record::write_field;
 use rules::decisions::access_number;
+use rules::decisions::change_number;
 use rules::decisions::checked;
-use rules::decisions::command_number;
 use rules::decisions::entry_number;
 use rules::decisions::field_number;
 use rules::decisions::mode_number;
@@ -35,7 +35,7 @@ ghost use Rattle.rules.specs.Domains.{prevailing, withBit, withoutBit};
 ghost use Rattle.rules.specs.Refusals.{pick, first, _⇒_};
 ghost use Rattle.machine.specs.Machine.{isSound, withFields};
 ghost use Rattle.machine.specs.declared.record.Call.{Call};
-ghost use Rattle.machine.specs.Calls.{callOf, keeping, changeCall, accessChecks, commandChecks, inUserMode, modeOf};
+ghost use Rattle.machine.specs.Calls.{callOf, keeping, changeCall, accessChecks, changeChecks, inUserMode, modeOf};
 
 // The new value where a call was accepted, else the old one.
 fn chosen(done: bool, new: u16, old: u16) -> u16
@@ -115,11 +115,11 @@ impl Machine {
 
     // The number of a grant or a revocation, from the field of that right to that page.
     fn change_number(self, right: u8, page: Page, domain: Domain, field: u16) -> u8
-        ensures { λ r. ⌜ r ≡ pick (not (isSound self)) 1 (first (commandChecks self right page domain (prevailing field))) ⌝ }
+        ensures { λ r. ⌜ r ≡ pick (not (isSound self)) 1 (first (changeChecks self right page domain (prevailing field))) ⌝ }
     {
         let registers = self.registers;
         let prevails = prevailing_of(field);
-        let number = command_number(
+        let number = change_number(
             !(right <= 1),
             !(page.0 < self.pages),
             !(domain.0 < Machine::DOMAINS),

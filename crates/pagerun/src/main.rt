@@ -8,7 +8,5 @@ fn main() {
     let mut text = [0u8; 100000];
     let got = io::read_full(STDIN_FILENO, &mut input);
     let size = text::text_of(&input[..got], &mut text);
-    if size <= 100000 {
-        io::write_all(STDOUT_FILENO, &text[..size]);
-    }
+    io::write_all(STDOUT_FILENO, &text[..size]);
 }

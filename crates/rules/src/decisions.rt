@@ -41,7 +41,7 @@ pub fn access_number(
     0
 }
 
-pub fn command_number(
+pub fn change_number(
     badright: bool,
     badpage: bool,
     baddomain: bool,

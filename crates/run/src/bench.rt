@@ -29,7 +29,7 @@ pub fn calls_start(input: &[u8]) -> usize
 }
 
 // The load of an input's image.
-pub fn load_input(input: &[u8], end: usize) -> Answered
+fn load_input(input: &[u8], end: usize) -> Answered
     requires { ⌜ end ≡ min (2 + wordAt (now input) 0) (length (now input)) ⌝ }
     ensures { λ r. ⌜ r ≡ loadedOf (now (input .entry)) ⌝ }
 {

@@ -1,3 +1,3 @@
 mod Puts
-mod Printed
+pub mod Printed
 mod Examples

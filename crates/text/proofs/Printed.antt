@@ -5,7 +5,7 @@ use mathlib.Core.Bool.{Bool, true, false}
 use mathlib.Core.List.{List, [], _∷_, _++_}
 use native.Mathlib.Omega.{arith}
 use borrow.Author.Tests.{le-ltb, le-leb, ltb-false}
-use lib.Dec.{eqb}
+use lib.Dec.{eqb, leb}
 use lib.ListN.{length, getD, take, drop, length-append}
 use lib.Seq.{take-append-seam}
 use Rattle.rules.specs.Refusals.{pick}
@@ -13,7 +13,8 @@ use Rattle.image.specs.Bytes.{wordAt}
 use Rattle.run.specs.Records.{callsOf}
 use Rattle.run.specs.Run.{answersFrom, answersOf, callAnswers, callBytes, isLong, loadedOf, sent}
 use Rattle.run.proofs.Sent.{answers-most, bytes-left}
-use Rattle.text.specs.Text.{letters, cutOf, linesFrom, loadLine, runText, textOf}
+use Rattle.text.specs.Text.{letters, cutOf, linesFrom, loadLine, printed, runText, textOf}
+use Rattle.text.specs.Put.{Put}
 use Rattle.text.proofs.Puts.{decimal-most, line-most}
 
 pub load-most : (number : ℕ) → length (loadLine number) ≤ 11
@@ -88,3 +89,12 @@ text-fits input = split (isLong input) refl
     split : (b : Bool) → isLong input ≡ b → length (pick b (letters "long\n") (runText input)) ≤ 100000
     split true e = omega arith
     split false e = run-most input (ltb-false 32768 (length input) e)
+
+-- and so is what `text_of` answers
+pub answer-fits : {entry exit : List ℕ} {past : ℕ} (input : List ℕ) (room : ℕ) → Put entry 0 (printed input room) exit past → past ≤ 100000
+unfolding printed
+answer-fits {past = past} input room put = omega (arith, put .next, split (leb 100000 room))
+  where
+    split : (b : Bool) → length (pick b (textOf input) []) ≤ 100000
+    split true = text-fits input
+    split false = omega arith

@@ -1,8 +1,9 @@
--- `cases::print_case` meets its contract: the text that it writes stands in the buffer.
+-- `cases::print_case` meets its contract: the text that it writes stands in the buffer (`answer-fits`).
 use mathlib.Core.Path.{sym}
+use borrow.Author.Needs.{needs}
 use native.Mathlib.Omega.{arith}
 use lib.Seq.{length-take-le}
-use borrow.Author.Needs.{needs}
+use Rattle.text.proofs.Printed.{answer-fits}
 use Rattle.cases.proofs.print_case.Statement.{statement}
 use Rattle.cases.proofs.print_case.Tie as tie
 
@@ -28,21 +29,18 @@ text-of-requires : tie.Need-text-of-requires
 text-of-requires c κs = search needs
 
 array-share-prefix-text : tie.Need-array-share-prefix-text
-array-share-prefix-text c = search needs
+array-share-prefix-text c = let called = c .before .text-of in omega (arith, answer-fits _ _ (called .ensures), called .kept .1 .0)
 
 slice-aggregate-write-all-3 : tie.Need-slice-aggregate-write-all-3
 slice-aggregate-write-all-3 c =
-    let called = c .before .before .before .text-of in
-    sym (length-take-le (called .result) (called .last .1 .0) (omega (arith, called .kept .1 .0)))
+    let called = c .before .before .text-of in
+    sym (length-take-le (called .result) (called .last .1 .0) (array-share-prefix-text (c .before)))
 
 write-all-requires-3 : tie.Need-write-all-requires-3
 write-all-requires-3 c κs = search needs
 
 returns : tie.Need-returns
 returns c = search needs
-
-returns-2 : tie.Need-returns-2
-returns-2 c = search needs
 
 pub print-case-spec : {M : Type 1} → statement M
 print-case-spec =
@@ -58,5 +56,4 @@ print-case-spec =
     array-share-prefix-text
     slice-aggregate-write-all-3
     write-all-requires-3
-    returns
-    returns-2)
+    returns)

@@ -1,8 +1,9 @@
--- `pagerun::main` is safe and ends: the text that it writes stands in the buffer.
+-- `pagerun::main` is safe and ends: the text that it writes stands in the buffer (`answer-fits`).
 use mathlib.Core.Path.{sym}
+use borrow.Author.Needs.{needs}
 use native.Mathlib.Omega.{arith}
 use lib.Seq.{length-take-le}
-use borrow.Author.Needs.{needs}
+use Rattle.text.proofs.Printed.{answer-fits}
 use Rattle.pagerun.proofs.main.Statement.{statement}
 use Rattle.pagerun.proofs.main.Tie as tie
 
@@ -25,21 +26,18 @@ text-of-requires : tie.Need-text-of-requires
 text-of-requires c κs = search needs
 
 array-share-prefix-text : tie.Need-array-share-prefix-text
-array-share-prefix-text c = search needs
+array-share-prefix-text c = let called = c .before .text-of in omega (arith, answer-fits _ _ (called .ensures), called .kept .1 .0)
 
 slice-aggregate-write-all : tie.Need-slice-aggregate-write-all
 slice-aggregate-write-all c =
-    let called = c .before .before .before .text-of in
-    sym (length-take-le (called .result) (called .last .1 .0) (omega (arith, called .kept .1 .0)))
+    let called = c .before .before .text-of in
+    sym (length-take-le (called .result) (called .last .1 .0) (array-share-prefix-text (c .before)))
 
 write-all-requires : tie.Need-write-all-requires
 write-all-requires c κs = search needs
 
 returns : tie.Need-returns
 returns c = search needs
-
-returns-2 : tie.Need-returns-2
-returns-2 c = search needs
 
 pub main-spec : {M : Type 1} → statement M
 main-spec =
@@ -54,5 +52,4 @@ main-spec =
     array-share-prefix-text
     slice-aggregate-write-all
     write-all-requires
-    returns
-    returns-2)
+    returns)

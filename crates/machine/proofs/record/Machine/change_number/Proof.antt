@@ -1,5 +1,5 @@
 -- `Machine::change_number` meets its contract: its tests are the conditions of the list, one by one.
-use Rattle.machine.specs.Calls.{commandChecks}
+use Rattle.machine.specs.Calls.{changeChecks}
 use borrow.Author.Needs.{needs}
 use Rattle.machine.proofs.record.Machine.change_number.Statement.{statement}
 use Rattle.machine.proofs.record.Machine.change_number.Tie as tie
@@ -19,8 +19,8 @@ outside-requires c κs = search needs
 not-lower-requires : tie.Need-not-lower-requires
 not-lower-requires c κs = search needs
 
-command-number-requires : tie.Need-command-number-requires
-command-number-requires c κs = search needs
+change-number-requires : tie.Need-change-number-requires
+change-number-requires c κs = search needs
 
 sound-requires : tie.Need-sound-requires
 sound-requires c κs = search needs
@@ -29,11 +29,11 @@ checked-requires : tie.Need-checked-requires
 checked-requires c κs = search needs
 
 returns : tie.Need-returns
-unfolding commandChecks
+unfolding changeChecks
 returns c =
     rw (
       c .checked .ensures,
-      c .before .before .command-number .ensures,
+      c .before .before .change-number .ensures,
       c .before .before .before .not-lower .ensures,
       c .before .before .before .before .outside .ensures,
       c .before .before .before .before .before .local .ensures,
@@ -51,7 +51,7 @@ change-number-spec =
     local-requires
     outside-requires
     not-lower-requires
-    command-number-requires
+    change-number-requires
     sound-requires
     checked-requires
     returns)
