@@ -2,14 +2,16 @@
 use Prim.Native.Nat.{ℕ, _+_, _*_, _≤_}
 use mathlib.Core.Path.{_≡_, refl, ap, sym}
 use mathlib.Core.Bool.{Bool, true, false}
-use mathlib.Core.List.{List, [], _∷_, List·Memᴰ, List·Memᴰ·head, List·Memᴰ·tail}
+use mathlib.Core.List.{List, [], _∷_}
 use borrow.Author.Tests.{ne-eqb}
 use native.Mathlib.Omega.{arith}
 use lib.ListN.{length, getD}
-use Rattle.rules.specs.Refusals.{Check, _⇒_, first, pick}
+use Rattle.rules.specs.Refusals.{first, pick}
 use Rattle.machine.specs.Machine.{isSound, noMode, noProgram, zero}
 use Rattle.machine.specs.declared.record.Machine.{Machine}
+use Rattle.machine.specs.Listed.{isIn}
 use Rattle.machine.proofs.Sound.{facts-sound}
+use Rattle.machine.proofs.Laws.{first-within}
 use Rattle.image.specs.Description.{machineOf, liveOf}
 use Rattle.image.specs.Load.{fieldsOf, programsOf, programAt, fieldAt, pageCount, programCount, describe, loadChecks, loadOf}
 use Rattle.image.proofs.Entries.{length-entries, pad-at, pad-past}
@@ -67,17 +69,7 @@ unfolding loadOf
 refused-zero s refused =
     ap (λ (loads : Bool). pick loads (machineOf (describe s)) zero) (ne-eqb (first (loadChecks s)) 0 refused)
 
--- the numbers of a list of conditions, and 0
-abbrev numbers : List Check → List ℕ
-numbers [] = 0 ∷ []
-numbers ((met ⇒ number) ∷ rest) = number ∷ numbers rest
-
-listed : (checks : List Check) → List·Memᴰ (first checks) (numbers checks)
-listed [] = List·Memᴰ·head refl
-listed ((true ⇒ number) ∷ rest) = List·Memᴰ·head refl
-listed ((false ⇒ number) ∷ rest) = List·Memᴰ·tail (listed rest)
-
 -- the answers of a load
-pub load-number : (s : List ℕ) → List·Memᴰ (loadOf s .number) (20 ∷ 21 ∷ 22 ∷ 23 ∷ 24 ∷ 25 ∷ 0 ∷ [])
+pub load-number : (s : List ℕ) → isIn (loadOf s .number) (0 ∷ 20 ∷ 21 ∷ 22 ∷ 23 ∷ 24 ∷ 25 ∷ []) ≡ true
 unfolding loadOf loadChecks
-load-number s = listed (loadChecks s)
+load-number s = first-within (0 ∷ 20 ∷ 21 ∷ 22 ∷ 23 ∷ 24 ∷ 25 ∷ []) (loadChecks s) refl

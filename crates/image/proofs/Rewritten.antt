@@ -16,7 +16,8 @@ use Rattle.image.specs.Bytes.{Bytes, byteAt, wordAt, word, entries, bodi
 use Rattle.image.specs.Description.{Legal, entry, contents, shape, modeByte, programBytes, bytesOf}
 use Rattle.image.specs.Load.{kindAt, zeroAt, offsetAt, lengthAt, pageCount, pageExponent, programCount, fieldAt, fieldsOf, programsOf, programAt, modeAt, areModes, describe}
 use Rattle.image.proofs.Entries.{length-entries, each-entry}
-use Rattle.image.proofs.Passed.{Passed, both}
+use Rattle.machine.proofs.Sound.{and-both}
+use Rattle.image.proofs.Passed.{Passed}
 
 -- bodies that are written as they stand in a string
 module _ {A : Type 0} (size : ℕ) (read : ℕ → A) (write : A → List ℕ) (s : List ℕ) where
@@ -91,10 +92,10 @@ mode-within : (read : ℕ → ℕ) (at n : ℕ) → areModes (entries 5 read at 
 mode-within read at zero h i k = absurd (omega arith)
 mode-within read at (suc n) h zero k =
     let start : at + 5 * 0 ≡ at = omega arith in
-    rw start (leb-true (read at) 1 (both (leb (read at) 1) (areModes (entries 5 read (5 + at) n)) h .0))
+    rw start (leb-true (read at) 1 (and-both (leb (read at) 1) (areModes (entries 5 read (5 + at) n)) h .0))
 mode-within read at (suc n) h (suc i) k =
     let next : at + 5 * suc i ≡ 5 + at + 5 * i = omega arith in
-    rw next (mode-within read (5 + at) n (both (leb (read at) 1) (areModes (entries 5 read (5 + at) n)) h .1) i (omega arith))
+    rw next (mode-within read (5 + at) n (and-both (leb (read at) 1) (areModes (entries 5 read (5 + at) n)) h .1) i (omega arith))
 
 module _ (s : List ℕ) (bytes : Bytes s) (passed : Passed s) where
   -- the programs, the fields, the shape and the table of contents, from the end to the start

@@ -97,7 +97,7 @@ mixed =
           ∷ [];
     }
 
-mixed-own : ownTurns sample 0 mixed
+pub mixed-own : ownTurns sample 0 mixed
     ≡ (Grant 0 (page 0) (domain 1) ∷ Access 1 0 ∷ SetMask 0x0007 ∷ [])
     ∷ (Enter ∷ Switch 0 ∷ Return ∷ Revoke 0 (page 0) (domain 1) ∷ [])
     ∷ (Enter ∷ Switch 0 ∷ Return ∷ [])
@@ -106,7 +106,7 @@ mixed-own = refl
 
 -- a grant, a violation, and a mask command that is refused since the flag is set; then entry, switch, return and a
 -- revocation; then entry, switch to itself and return
-mixed-observed : observed sample 0 mixed
+pub mixed-observed : observed sample 0 mixed
     ≡ shown 0 plain granted
     ∷ shown 9 granted granted
     ∷ shown 8 granted granted
@@ -147,19 +147,19 @@ nowhere (suc zero) (suc (suc zero)) domain known counted prevails held = prevail
 nowhere (suc zero) (suc (suc (suc page))) domain known counted prevails held = omega arith
 nowhere (suc (suc right)) page domain known counted prevails held = omega arith
 
-apart-zero : Apart sample 0
+pub apart-zero : Apart sample 0
 unfolding Apart
 apart-zero zero right page domain lower below differs known counted prevails held less = absurd (differs refl)
 apart-zero (suc zero) right page domain lower below differs known counted prevails held less =
     absurd (nowhere right page domain known counted prevails held)
 apart-zero (suc (suc other)) right page domain lower below differs known counted prevails held less = absurd (omega arith)
 
-isolated-zero : Isolated sample 0
+pub isolated-zero : Isolated sample 0
 unfolding isSound
 isolated-zero = isolation sample 0 (node-started 2 User refl) (omega arith) apart-zero
 
 -- ---- "It is not met for program 1: program 0 holds domain 0, prevails on READ of page 0, and may revoke domain 3."
-not-apart-one : Apart sample 1 → ⊥
+pub not-apart-one : Apart sample 1 → ⊥
 unfolding Apart prevailing trailingZeros domainBit
 not-apart-one apart =
     let lacks = apart 0 0 0 0 3 (omega arith) (omega arith) (omega arith) (omega arith) refl refl (omega arith) in
@@ -179,7 +179,7 @@ differ isolated =
     let revoking = revoke 0 (page 0) (domain 3) ∷ [] in
     ap numbers (isolated (reading []) (reading revoking) ((omega arith), tt) ((omega arith), tt) refl)
 
-not-isolated-one : Isolated sample 1 → ⊥
+pub not-isolated-one : Isolated sample 1 → ⊥
 not-isolated-one isolated =
     let same = differ isolated in
     let never : _≡_ {A = ℕ} 0 9 = cc in
@@ -209,7 +209,7 @@ none-lower : (context lower : ℕ) → 16 ≤ lower → holds context lower ≡ 
 none-lower context lower past = rw (no-domain-bit lower past, and-zero-r context)
 
 -- program 0 prevails by domain 15, on WRITE alone, and there is no lower level; its domain 1 prevails nowhere
-apart-sharing : Apart sharing 1
+pub apart-sharing : Apart sharing 1
 unfolding Apart prevailing trailingZeros domainBit
 apart-sharing (suc zero) right page domain lower below differs known counted prevails held less = absurd (differs refl)
 apart-sharing (suc (suc other)) right page domain lower below differs known counted prevails held less = absurd (omega arith)
@@ -225,7 +225,7 @@ apart-sharing zero (suc zero) zero domain lower below differs known counted prev
 abbrev lone : Machine
 lone = node 1 Privileged
 
-isolated-lone : Isolated lone 0
+pub isolated-lone : Isolated lone 0
 unfolding isSound Apart
 isolated-lone =
     isolation lone 0 (node-started 1 Privileged refl) (omega arith)
@@ -238,7 +238,7 @@ itself =
       turns = record { program = 0; commands = grant 0 (page 0) (domain 1) ∷ [] } ∷ [];
     }
 
-lone-observed : observed lone 0 itself
+pub lone-observed : observed lone 0 itself
     ≡ shown 0 plain plain
     ∷ shown 6 plain plain
     ∷ shown 0 plain plain

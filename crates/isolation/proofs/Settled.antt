@@ -14,6 +14,7 @@ use Rattle.machine.specs.Calls.{callOf}
 use Rattle.machine.specs.declared.record.Machine.{Machine}
 use Rattle.machine.specs.declared.record.Program.{Program}
 use Rattle.machine.specs.declared.record.Call.{Call}
+use Rattle.machine.proofs.Laws.{soundness-kept}
 use Rattle.machine.proofs.Sound.{sound-facts}
 use Rattle.machine.proofs.View.{IsCommand, prevailingDomains, view, map-set, mapped-at, command-stays, command-unseen}
 use Rattle.machine.proofs.Turn.{entryOf, home, registersOf, turned, Turned, turn-begins}
@@ -83,7 +84,7 @@ module _ {start : Machine} where
     settled-command {call} command =
         let k = command-stays m command in
         record {
-          sound = k .sound (s .sound);
+          sound = soundness-kept m call ∙ s .sound;
           depth = k .depth ∙ s .depth;
           pages = k .pages ∙ s .pages;
           exponent = k .exponent ∙ s .exponent;

@@ -10,7 +10,7 @@ use Rattle.rules.specs.declared.registers.Mode.the-variants.{User, Privileged}
 use Rattle.rules.specs.declared.registers.Registers.{Registers}
 use lib.Count.{trailingZeros}
 use Rattle.rules.specs.Domains.{prevailing, domainBit}
-use Rattle.machine.specs.Machine.{isSound, zero, noMode, noProgram, withRegisters}
+use Rattle.machine.specs.Machine.{isSound, noMode, noProgram, withRegisters}
 use Rattle.machine.specs.Calls.{callOf, checksOf, accessChecks, changeChecks, effectOf, entered, returned, switched, after}
 use Rattle.machine.specs.declared.record.Machine.{Machine}
 use Rattle.machine.specs.declared.record.Saved.{Saved}

@@ -25,11 +25,11 @@ use Rattle.machine.proofs.Entitled.{entitled}
 use Rattle.machine.proofs.Answers.{avoids, first-avoids, none-met, accepted, entry-below, switch-named, switch-depth}
 
 -- every number of a list of conditions is in a list of numbers, and so is 0
-abbrev within : List ℕ → List Check → Bool
+abbrev pub within : List ℕ → List Check → Bool
 within l [] = isIn 0 l
 within l ((met ⇒ number) ∷ rest) = isIn number l && within l rest
 
-first-within : (l : List ℕ) (checks : List Check) → within l checks ≡ true → isIn (first checks) l ≡ true
+pub first-within : (l : List ℕ) (checks : List Check) → within l checks ≡ true → isIn (first checks) l ≡ true
 first-within l [] h = h
 first-within l ((true ⇒ number) ∷ rest) h = and-both (isIn number l) (within l rest) h .0
 first-within l ((false ⇒ number) ∷ rest) h = first-within l rest (and-both (isIn number l) (within l rest) h .1)

@@ -1,5 +1,5 @@
--- Laws that a wrong reading of document 01 breaks, where the definition and the code were changed together: who may grant and
--- revoke, the mask as it was given, what a switch stores and what a return leaves.
+-- Laws that a wrong reading of document 01 breaks, where the definition and the code were changed together: the mask as it was given,
+-- what a switch stores, what a return leaves and that a violation sets the flag.
 use Prim.Native.Nat.{ℕ, _-_}
 use mathlib.Core.Path.{_≡_, ap, _∙_}
 use mathlib.Core.Bool.{true}

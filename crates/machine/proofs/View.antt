@@ -3,28 +3,26 @@
 -- global context holds: so a context with no domain below it sees nothing, and the prevailing domain does not move.
 use Prim.Native.Nat.{ℕ, zero, suc, _≤_, _<_}
 use mathlib.Core.Path.{_≡_, refl, sym, ap, _∙_}
-use mathlib.Core.Bool.{Bool, true, false, not, _&&_}
+use mathlib.Core.Bool.{Bool, true, false}
 use mathlib.Core.List.{List, [], _∷_, map}
-use borrow.Author.Tests.{eqb-false}
 use lib.Bits.{bitAnd}
-use lib.Dec.{leb}
 use lib.ListN.{getD, set, List·getD-map}
 use lib.Seq.{map-set-same}
 use Rattle.rules.specs.Registers.{localContext, withMask, withPending}
 use Rattle.rules.specs.Domains.{holds, prevailing, withBit, withoutBit}
-use Rattle.rules.specs.Refusals.{_⇒_, first, pick}
+use Rattle.rules.specs.Refusals.{pick}
 use Rattle.rules.specs.declared.domains.Prevailing.{Prevailing}
 use Rattle.rules.specs.declared.domains.Prevailing.the-variants.{At}
 use Rattle.rules.proofs.Bits.{and-assoc, unseen, seen-alike, local-held, unmoved}
-use Rattle.machine.specs.Machine.{isSound, memorySize, placeOf, fieldOf, withFields, withRegisters}
-use Rattle.machine.specs.Calls.{callOf, checksOf, accessChecks, changeChecks, effectOf, isRight, inPrivilegedMode, numberOf, pageOf, violated}
+use Rattle.machine.specs.Machine.{isSound, placeOf, fieldOf, withFields, withRegisters}
+use Rattle.machine.specs.Calls.{callOf, checksOf, accessChecks, changeChecks, effectOf, numberOf, pageOf}
 use Rattle.machine.specs.declared.record.Machine.{Machine}
 use Rattle.machine.specs.declared.record.Page.{Page}
 use Rattle.machine.specs.declared.record.Domain.{Domain}
 use Rattle.machine.specs.declared.record.Call.{Call}
 use Rattle.machine.specs.declared.record.Call.the-variants.{Access, Grant, Revoke, SetMask}
 use Rattle.machine.proofs.Entitled.{Entitled, entitled}
-use Rattle.machine.proofs.Answers.{avoids, first-avoids, after-cases, after-both, not-nine, change-avoids, change-checks, change-effect}
+use Rattle.machine.proofs.Answers.{avoids, after-cases, after-both, not-nine, change-avoids, change-checks, change-effect}
 
 -- the calls of a turn after its entry, switch and return
 pub data IsCommand : Call → Type 0 where
@@ -83,25 +81,6 @@ mask-avoids : (m : Machine) (bits : ℕ) → avoids 9 (checksOf m (SetMask bits)
 unfolding checksOf
 mask-avoids m bits = refl
 
--- 9 is answered in user mode alone
-violation-user : (m : Machine) (right address : ℕ) → numberOf m (Access right address) ≡ 9 → inPrivilegedMode m ≡ false
-unfolding checksOf accessChecks
-violation-user m right address h = split (inPrivilegedMode m) refl h
-  where
-    split : (b : Bool) → inPrivilegedMode m ≡ b → numberOf m (Access right address) ≡ 9 → b ≡ false
-    split true e f =
-        let checks = (not (isSound m) ⇒ 1) ∷ (not (isRight right) ⇒ 2) ∷ (leb (memorySize m) address ⇒ 3) ∷ [] in
-        absurd (eqb-false (first checks) 9 (first-avoids 9 checks refl) (rw e at f))
-    split false e f = refl
-
-violated-sound : (m : Machine) → inPrivilegedMode m ≡ false → isSound m ≡ true → isSound (violated m) ≡ true
-unfolding isSound
-violated-sound m user sound = rw user (rw (user, calm (m .registers .pending)) at sound)
-  where
-    calm : (b : Bool) → b && false ≡ false
-    calm true = refl
-    calm false = refl
-
 -- ---- what no command changes
 
 pub record Stays (m end : Machine) : Type 0 where
@@ -115,15 +94,12 @@ pub record Stays (m end : Machine) : Type 0 where
   pub context : end .registers .context ≡ m .registers .context
   pub mode : end .registers .mode ≡ m .registers .mode
   pub prevails : prevailingDomains end ≡ prevailingDomains m
-  pub sound : isSound m ≡ true → isSound end ≡ true
 
 -- a machine that differs in the mask, the flag or the fields alone
 stays-with : (m : Machine) (mask : ℕ) (pending : Bool) (fields : List ℕ)
     → map prevailing fields ≡ prevailingDomains m
-    → (isSound m ≡ true → isSound (withRegisters (withPending pending (m .registers)) m) ≡ true)
     → Stays m (withFields fields (withRegisters (withMask mask (withPending pending (m .registers))) m))
-unfolding isSound
-stays-with m mask pending fields prevails sound =
+stays-with m mask pending fields prevails =
     record {
       pages = refl;
       exponent = refl;
@@ -135,18 +111,17 @@ stays-with m mask pending fields prevails sound =
       context = refl;
       mode = refl;
       prevails = prevails;
-      sound = sound;
     }
 
 module _ (m : Machine) where
   same-stays : Stays m m
-  same-stays = stays-with m (m .registers .mask) (m .registers .pending) (m .fields) refl (λ h. h)
+  same-stays = stays-with m (m .registers .mask) (m .registers .pending) (m .fields) refl
 
   pub command-stays : {call : Call} → IsCommand call → Stays m (callOf m call .machine)
   unfolding callOf effectOf
   command-stays (an-access right address) =
       after-cases (Stays m) (numberOf m (Access right address)) m m (λ _. same-stays)
-      (λ h. stays-with m (m .registers .mask) true (m .fields) refl (violated-sound m (violation-user m right address h)))
+      (λ _. stays-with m (m .registers .mask) true (m .fields) refl)
       same-stays
   command-stays (a-change granting right page s) =
       let call = pick granting (Grant right page s) (Revoke right page s) in
@@ -154,12 +129,12 @@ module _ (m : Machine) where
       (λ h.
       rw (change-effect m right page s granting)
       (stays-with m (m .registers .mask) (m .registers .pending) (changedFields m granting right page s)
-      (change-unmoved m granting right page s (entitled m granting right page s h)) (λ k. k)))
+      (change-unmoved m granting right page s (entitled m granting right page s h))))
       (λ h. absurd (not-nine m call (change-avoids m right page s granting) h))
       same-stays
   command-stays (a-mask bits) =
       after-cases (Stays m) (numberOf m (SetMask bits)) m (effectOf m (SetMask bits))
-      (λ _. stays-with m bits (m .registers .pending) (m .fields) refl (λ h. h))
+      (λ _. stays-with m bits (m .registers .pending) (m .fields) refl)
       (λ h. absurd (not-nine m (SetMask bits) (mask-avoids m bits) h))
       same-stays
 
@@ -193,7 +168,7 @@ command-unseen m (a-mask bits) context small below =
 
 -- ---- its own program's view
 
--- two machines that a program of that context cannot tell keeping by commands
+-- two machines that a program of that context cannot tell apart by commands
 pub record Alike (context : ℕ) (m n : Machine) : Type 0 where
   pub pages : m .pages ≡ n .pages
   pub exponent : m .exponent ≡ n .exponent

@@ -20,7 +20,7 @@ record-of : ℕ → List ℕ → List ℕ
 record-of kind rest = kind ∷ 1 ∷ 2 ∷ 3 ∷ 4 ∷ 5 ∷ rest
 
 -- "Kinds: 1 access, address A × 65,536 + B; 2 grant and 3 revoke, page A, domain B; ..", and a remainder that is no call
-kinds-read :
+pub kinds-read :
     callsOf
     (record-of 0 (record-of 1 (record-of 2 (record-of 3 (record-of 4 (record-of 5 (record-of 6 (record-of 7 (record-of 8
     (record-of 9 (record-of 10 (record-of 11 (record-of 12 (1 ∷ 1 ∷ 2 ∷ 3 ∷ 4 ∷ []))))))))))))))
@@ -68,7 +68,7 @@ remainder-answered = refl
 
 -- "A record is read as one of eleven calls or answered 18.", and then leaves the machine alone: the access after it is allowed. "that many image
 -- bytes (fewer if the input ends)", "Input under 2 bytes counts as an empty image", "After a refused load that one answer is all there is."
-ends-answered :
+pub ends-answered :
     map answersOf
     ((0x00 ∷ 0x2C ∷ (sampleBytes ++ (0x0C ∷ 0x00 ∷ 0x00 ∷ 0x00 ∷ 0x00 ∷ 0x00 ∷ 0x01 ∷ 0x00 ∷ 0x00 ∷ 0x00 ∷ 0x00 ∷ 0x10 ∷ [])))
     ∷ (0x00 ∷ 0x2D ∷ sampleBytes)
@@ -81,11 +81,11 @@ unfolding sampleBytes callAnswers answersFrom callsOf callOfKind stepOf loadOf l
 ends-answered = refl
 
 -- "If the buffer is too short for all of them, .. the count is 0": the sample's nine answers in buffers about as long
-room-sent : map (sent sampleInput) (0 ∷ 8 ∷ 9 ∷ 10 ∷ []) ≡ [] ∷ [] ∷ answersOf sampleInput ∷ answersOf sampleInput ∷ []
+pub room-sent : map (sent sampleInput) (0 ∷ 8 ∷ 9 ∷ 10 ∷ []) ≡ [] ∷ [] ∷ answersOf sampleInput ∷ answersOf sampleInput ∷ []
 unfolding sent sampleInput sampleBytes
 room-sent = rw (ap (λ (l : List ℕ). drop 1 l) sample-answered)
 
 -- "the input is above 32,768 bytes"
-long-sent : map (λ (n : ℕ). length (sent (replicate n 0) 1)) (32768 ∷ 32769 ∷ []) ≡ 1 ∷ 0 ∷ []
+pub long-sent : map (λ (n : ℕ). length (sent (replicate n 0) 1)) (32768 ∷ 32769 ∷ []) ≡ 1 ∷ 0 ∷ []
 unfolding sent callAnswers loadOf loadChecks lengthTests kindTests
 long-sent = refl

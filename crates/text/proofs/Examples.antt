@@ -11,27 +11,27 @@ use Rattle.run.proofs.Examples.{sampleInput, sample-answered, remainder-answere
 use Rattle.text.specs.Text.{letters, decimalOf, lineOf, linesFrom, cutOf, loadLine, runText, textOf}
 
 -- "Whole output, one item a line: `load 0`, `1 0`, `2 9`, `3 8`, `4 0`, `5 0`, `6 0`, `7 0`, `8 9`."
-sample-printed : textOf sampleInput ≡ letters "load 0\n1 0\n2 9\n3 8\n4 0\n5 0\n6 0\n7 0\n8 9\n"
+pub sample-printed : textOf sampleInput ≡ letters "load 0\n1 0\n2 9\n3 8\n4 0\n5 0\n6 0\n7 0\n8 9\n"
 unfolding sampleInput sampleBytes textOf runText loadLine decimalOf linesFrom lineOf cutOf
 sample-printed = rw (ap (λ (l : List ℕ). getD l 0 0) sample-answered, ap (λ (l : List ℕ). drop 1 l) sample-answered)
 
 -- "A remainder of 1 to 5 bytes prints `cut`."
-remainder-printed : textOf (sampleInput ++ 0x01 ∷ []) ≡ letters "load 0\n1 0\n2 9\n3 8\n4 0\n5 0\n6 0\n7 0\n8 9\ncut\n"
+pub remainder-printed : textOf (sampleInput ++ 0x01 ∷ []) ≡ letters "load 0\n1 0\n2 9\n3 8\n4 0\n5 0\n6 0\n7 0\n8 9\ncut\n"
 unfolding sampleInput sampleBytes textOf runText loadLine decimalOf linesFrom lineOf cutOf
 remainder-printed = rw (ap (λ (l : List ℕ). getD l 0 0) remainder-answered, ap (λ (l : List ℕ). drop 1 l) remainder-answered)
 
 -- "After a refused load it stops.", also where a remainder is left
-refused-printed : textOf (0x00 ∷ 0x00 ∷ 0x01 ∷ []) ≡ letters "load 20\n"
+pub refused-printed : textOf (0x00 ∷ 0x00 ∷ 0x01 ∷ []) ≡ letters "load 20\n"
 unfolding textOf runText loadLine decimalOf loadOf loadChecks lengthTests
 refused-printed = refl
 
 -- "Input above 32,768 bytes prints `long` alone."
-long-printed : (input : List ℕ) → 32768 < length input → textOf input ≡ letters "long\n"
+pub long-printed : (input : List ℕ) → 32768 < length input → textOf input ≡ letters "long\n"
 unfolding textOf
 long-printed input long = rw (lt-ltb 32768 (length input) long)
 
 -- "decimal"
-decimal-cases :
+pub decimal-cases :
     map decimalOf (0 ∷ 9 ∷ 10 ∷ 18 ∷ 99 ∷ 100 ∷ 1020 ∷ 5461 ∷ 10203 ∷ 65535 ∷ [])
     ≡ map letters ("0" ∷ "9" ∷ "10" ∷ "18" ∷ "99" ∷ "100" ∷ "1020" ∷ "5461" ∷ "10203" ∷ "65535" ∷ [])
 unfolding decimalOf

@@ -1,6 +1,6 @@
 -- `Machine::set_mask` meets its contract: it changes the registers alone, as the mask command on the register record does.
 use Rattle.machine.proofs.Answers.{registers-answered}
-use Rattle.machine.proofs.MaskCommand.{accepted}
+use Rattle.machine.proofs.MaskCommand.{mask-taken}
 use Rattle.rules.specs.Registers.{maskedOf}
 use Rattle.machine.specs.Machine.{isSound}
 use Rattle.machine.specs.Calls.{checksOf, effectOf}
@@ -32,7 +32,7 @@ returns c =
     (rw (c .before .before .checked .ensures, done, c .before .before .before .sound .ensures))
     refl refl
     (rw (c .or-where .ensures, c .before .before .checked .ensures, done, c .before .before .before .sound .ensures)
-    (accepted (a .self .registers) (a .mask) (not (isSound (a .self)))))
+    (mask-taken (a .self .registers) (a .mask) (not (isSound (a .self)))))
 
 pub set-mask-spec : {M : Type 1} → statement M
 set-mask-spec =
