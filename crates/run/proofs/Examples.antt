@@ -16,7 +16,7 @@ use Rattle.run.specs.Run.{answersFrom, answersOf, callAnswers, sent}
 use Rattle.run.specs.declared.records.Decoded.the-variants.{Known, Unknown}
 
 -- a record of a kind, with right 1, A = 0x0203 and B = 0x0405
-record-of : ℕ → List ℕ → List ℕ
+abbrev record-of : ℕ → List ℕ → List ℕ
 record-of kind rest = kind ∷ 1 ∷ 2 ∷ 3 ∷ 4 ∷ 5 ∷ rest
 
 -- "Kinds: 1 access, address A × 65,536 + B; 2 grant and 3 revoke, page A, domain B; ..", and a remainder that is no call
@@ -38,7 +38,7 @@ pub kinds-read :
     ∷ Known (StoreMode 0x0405)
     ∷ Unknown
     ∷ []
-unfolding record-of callsOf callOfKind
+unfolding callsOf callOfKind
 kinds-read = refl
 
 -- "Input to `pagerun`: 00 2C, the image, then 01 00 00 00 00 10; 01 00 00 00 02 00; 04 00 00 00 00 07; 05 00 00 00 00 00;
