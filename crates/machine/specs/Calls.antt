@@ -30,7 +30,8 @@ inPrivilegedMode m = isPrivileged (m .registers .mode)
 abbrev pub inUserMode : Machine → Bool
 inUserMode m = not (inPrivilegedMode m)
 
--- "the address's page (address divided by page size, rounded down)"; "An access of two bytes is presented by the address of its first byte"
+-- "the address's page (address divided by page size, rounded down)"; "An access of two bytes is presented by the address of its first byte
+-- and judged by that byte's page."
 abbrev pub pageOf : Machine → ℕ → ℕ
 pageOf m address = address / 2 ^ m .exponent
 
