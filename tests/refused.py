@@ -34,9 +34,12 @@ def refused(log, name):
     """Whether the function or the law of this name was refused by itself."""
     if re.search(rf'^fn \S*::{name}: no proof: .*does not close', log, re.M):
         return True
-    place = rf'/{name}/Proof\.antt' if re.search(rf'^fn \S*::{name}: ', log, re.M) else r'/[A-Z]\w*\.antt'
-    law = r'\S+' if 'Proof' in place else name
-    errors = re.findall(rf'{place}:\d+:\d+: error: `{law}`: (.*)', log)
+    if re.search(rf'^fn \S*::{name}: ', log, re.M):
+        # Any answer to a need counts, but not the line that puts the answers together.
+        where = rf'/{name}/Proof\.antt:\d+:\d+: error: `(?!\S*-spec`)\S+`'
+    else:
+        where = rf'/[A-Z]\w*\.antt:\d+:\d+: error: `{name}`'
+    errors = re.findall(rf'{where}: (.*)', log)
     return says(errors, FACT) and not says(errors, SHAPE)
 
 
