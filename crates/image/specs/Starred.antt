@@ -2,10 +2,8 @@
 use Prim.Native.Nat.{ℕ}
 use mathlib.Core.Bool.{true, false}
 use mathlib.Core.List.{List, [], _∷_}
-use Rattle.machine.specs.Calls.{callOf}
+use Rattle.machine.specs.Calls.{asPage, asDomain, callOf}
 use Rattle.machine.specs.declared.record.Machine.{Machine}
-use Rattle.machine.specs.declared.record.Page.{Page}
-use Rattle.machine.specs.declared.record.Domain.{Domain}
 use Rattle.machine.specs.declared.record.Answered.{Answered}
 use Rattle.machine.specs.declared.record.Call.{Call}
 use Rattle.machine.specs.declared.record.Call.the-variants.{Access, Grant, Revoke, SetMask, Return}
@@ -29,12 +27,6 @@ READ = 0
 abbrev WRITE : ℕ
 WRITE = 1
 
-abbrev page : ℕ → Page
-page number = record { 0 = number }
-
-abbrev domain : ℕ → Domain
-domain number = record { 0 = number }
-
 -- page 1 starts at address 256
 unfoldable pub starred : List Case
 starred =
@@ -49,18 +41,18 @@ starred =
     -- "read address 768: 3."
     ∷ row [] (Access READ 768) 3 sampleMachine
     -- "grant READ, page 0, domain 0: 12."
-    ∷ row [] (Grant READ (page 0) (domain 0)) 12 sampleMachine
+    ∷ row [] (Grant READ (asPage 0) (asDomain 0)) 12 sampleMachine
     -- "grant WRITE, page 0, domain 3: 11."
-    ∷ row [] (Grant WRITE (page 0) (domain 3)) 11 sampleMachine
+    ∷ row [] (Grant WRITE (asPage 0) (asDomain 3)) 11 sampleMachine
     -- "revoke READ, page 0, domain 3: 0, field 0x0001."
-    ∷ row [] (Revoke READ (page 0) (domain 3)) 0
+    ∷ row [] (Revoke READ (asPage 0) (asDomain 3)) 0
     (node (0x0001 ∷ 0x0000 ∷ 0x000A ∷ 0x0002 ∷ 0x000C ∷ 0x0004 ∷ []) (live 0x0003 false))
     -- "grant READ, page 2, domain 3: 11;"
-    ∷ row [] (Grant READ (page 2) (domain 3)) 11 sampleMachine
+    ∷ row [] (Grant READ (asPage 2) (asDomain 3)) 11 sampleMachine
     -- "after mask 0x0007: 0."
-    ∷ row (SetMask 0x0007 ∷ []) (Grant READ (page 2) (domain 3)) 0 (node sampleFields (live 0x0007 false))
+    ∷ row (SetMask 0x0007 ∷ []) (Grant READ (asPage 2) (asDomain 3)) 0 (node sampleFields (live 0x0007 false))
     -- "grant READ, page 0, domain 16: 5."
-    ∷ row [] (Grant READ (page 0) (domain 16)) 5 sampleMachine
+    ∷ row [] (Grant READ (asPage 0) (asDomain 16)) 5 sampleMachine
     -- "return: 7."
     ∷ row [] Return 7 sampleMachine
     ∷ []

@@ -15,10 +15,8 @@ use Rattle.rules.specs.declared.registers.Mode.{Mode}
 use Rattle.rules.specs.declared.registers.Mode.the-variants.{User, Privileged}
 use Rattle.rules.proofs.Laws.{no-domain-bit}
 use Rattle.machine.specs.Machine.{fieldOf, isSound, noMode, noProgram}
-use Rattle.machine.specs.Calls.{accessChecks, after, callOf, checksOf, changeChecks, effectOf, entered, returned, switched}
+use Rattle.machine.specs.Calls.{asPage, asDomain, accessChecks, after, callOf, checksOf, changeChecks, effectOf, entered, returned, switched}
 use Rattle.machine.specs.declared.record.Machine.{Machine}
-use Rattle.machine.specs.declared.record.Page.{Page}
-use Rattle.machine.specs.declared.record.Domain.{Domain}
 use Rattle.machine.specs.declared.record.Call.the-variants.{Access, Enter, Grant, Return, Revoke, SetMask, Switch}
 use Rattle.image.specs.Load.{loadOf}
 use Rattle.image.specs.Sample.{sampleBytes, sampleMachine}
@@ -69,12 +67,6 @@ node-started programs mode sound =
     small (suc zero) = omega arith
     small (suc (suc program)) = past 6 program
 
-abbrev page : ℕ → Page
-page n = record { 0 = n }
-
-abbrev domain : ℕ → Domain
-domain n = record { 0 = n }
-
 abbrev shown : ℕ → List ℕ → List ℕ → Observation
 shown number before after = record { number = number; before = before; after = after }
 
@@ -89,17 +81,17 @@ granted = 3 ∷ 0 ∷ 2 ∷ 2 ∷ 4 ∷ 4 ∷ []
 abbrev mixed : History
 mixed =
     record {
-      opening = grant 0 (page 0) (domain 1) ∷ access 1 0 ∷ setMask 0x0007 ∷ [];
+      opening = grant 0 (asPage 0) (asDomain 1) ∷ access 1 0 ∷ setMask 0x0007 ∷ [];
       turns =
           record { program = 1; commands = access 0 0 ∷ access 1 0 ∷ [] }
-          ∷ record { program = 0; commands = revoke 0 (page 0) (domain 1) ∷ [] }
+          ∷ record { program = 0; commands = revoke 0 (asPage 0) (asDomain 1) ∷ [] }
           ∷ record { program = 0; commands = [] }
           ∷ [];
     }
 
 pub mixed-own : ownTurns sample 0 mixed
-    ≡ (Grant 0 (page 0) (domain 1) ∷ Access 1 0 ∷ SetMask 0x0007 ∷ [])
-    ∷ (Enter ∷ Switch 0 ∷ Return ∷ Revoke 0 (page 0) (domain 1) ∷ [])
+    ≡ (Grant 0 (asPage 0) (asDomain 1) ∷ Access 1 0 ∷ SetMask 0x0007 ∷ [])
+    ∷ (Enter ∷ Switch 0 ∷ Return ∷ Revoke 0 (asPage 0) (asDomain 1) ∷ [])
     ∷ (Enter ∷ Switch 0 ∷ Return ∷ [])
     ∷ []
 mixed-own = refl
@@ -176,7 +168,7 @@ numbers = map (λ (o : Observation). o .number)
 differ : Isolated sample 1 → _≡_ {A = List ℕ} (0 ∷ 0 ∷ 0 ∷ 0 ∷ []) (0 ∷ 0 ∷ 0 ∷ 9 ∷ [])
 unfolding Isolated observed observedFrom rightsOf callOf checksOf accessChecks changeChecks effectOf entered switched returned after isSound domainBit prevailing trailingZeros
 differ isolated =
-    let revoking = revoke 0 (page 0) (domain 3) ∷ [] in
+    let revoking = revoke 0 (asPage 0) (asDomain 3) ∷ [] in
     ap numbers (isolated (reading []) (reading revoking) ((omega arith), tt) ((omega arith), tt) refl)
 
 pub not-isolated-one : Isolated sample 1 → ⊥
@@ -235,7 +227,7 @@ abbrev itself : History
 itself =
     record {
       opening = access 1 0 ∷ setMask 0x0007 ∷ [];
-      turns = record { program = 0; commands = grant 0 (page 0) (domain 1) ∷ [] } ∷ [];
+      turns = record { program = 0; commands = grant 0 (asPage 0) (asDomain 1) ∷ [] } ∷ [];
     }
 
 pub lone-observed : observed lone 0 itself

@@ -11,12 +11,10 @@ use Rattle.rules.specs.declared.registers.Registers.{Registers}
 use lib.Count.{trailingZeros}
 use Rattle.rules.specs.Domains.{prevailing, domainBit}
 use Rattle.machine.specs.Machine.{isSound, noMode, noProgram, withRegisters}
-use Rattle.machine.specs.Calls.{callOf, checksOf, accessChecks, changeChecks, effectOf, entered, returned, switched, after}
+use Rattle.machine.specs.Calls.{asPage, asDomain, callOf, checksOf, accessChecks, changeChecks, effectOf, entered, returned, switched, after}
 use Rattle.machine.specs.declared.record.Machine.{Machine}
 use Rattle.machine.specs.declared.record.Saved.{Saved}
 use Rattle.machine.specs.declared.record.Program.{Program}
-use Rattle.machine.specs.declared.record.Page.{Page}
-use Rattle.machine.specs.declared.record.Domain.{Domain}
 use Rattle.machine.specs.declared.record.Call.{Call}
 use Rattle.machine.specs.declared.record.Call.the-variants.{Access, Grant, Revoke, SetMask, Enter, Return, Switch, StoreField, StoreContext, StoreMask, StoreMode}
 
@@ -68,19 +66,13 @@ saving mode pending depth saved =
 abbrev node : ℕ → Mode → Bool → Machine
 node depth mode pending = saving mode pending depth (stack User User)
 
-abbrev page : ℕ → Page
-page p = record { 0 = p }
-
-abbrev domain : ℕ → Domain
-domain s = record { 0 = s }
-
 -- what calls on a machine answer, each by itself
 abbrev Answers : Machine → List (Call × ℕ) → Type 0
 Answers m rows = map (λ row. callOf m (row .0) .number) rows ≡ map (λ row. row .1) rows
 
 -- a grant and a revocation, which have one list of conditions
 abbrev both : ℕ → ℕ → ℕ → ℕ → List (Call × ℕ) → List (Call × ℕ)
-both right p s number rest = (Grant right (page p) (domain s), number) ∷ (Revoke right (page p) (domain s), number) ∷ rest
+both right p s number rest = (Grant right (asPage p) (asDomain s), number) ∷ (Revoke right (asPage p) (asDomain s), number) ∷ rest
 
 -- a machine that is not sound: 1 before 2, 6, 13, 7 and 17
 pub not-sound-first :
@@ -91,7 +83,7 @@ pub not-sound-first :
     ∷ (Enter, 1)
     ∷ (Return, 1)
     ∷ (Switch 0, 1)
-    ∷ (StoreField 2 (page 0) 0, 1)
+    ∷ (StoreField 2 (asPage 0) 0, 1)
     ∷ (StoreContext 0, 1)
     ∷ (StoreMask 0, 1)
     ∷ (StoreMode 2, 1)
@@ -120,9 +112,9 @@ pub user-order :
     ∷ (Enter, 0)
     ∷ (Return, 7)
     ∷ (Switch 2, 7)
-    ∷ (StoreField 2 (page 3) 0, 2)
-    ∷ (StoreField 0 (page 3) 0, 4)
-    ∷ (StoreField 0 (page 0) 0, 7)
+    ∷ (StoreField 2 (asPage 3) 0, 2)
+    ∷ (StoreField 0 (asPage 3) 0, 4)
+    ∷ (StoreField 0 (asPage 0) 0, 7)
     ∷ (StoreContext 0, 7)
     ∷ (StoreMask 0, 7)
     ∷ (StoreMode 2, 17)
@@ -158,9 +150,9 @@ pub privileged-order :
     ∷ (Enter, 0)
     ∷ (Return, 14)
     ∷ (Switch 2, 15)
-    ∷ (StoreField 2 (page 0) 0, 2)
-    ∷ (StoreField 0 (page 3) 0, 4)
-    ∷ (StoreField 0 (page 0) 0, 0)
+    ∷ (StoreField 2 (asPage 0) 0, 2)
+    ∷ (StoreField 0 (asPage 3) 0, 4)
+    ∷ (StoreField 0 (asPage 0) 0, 0)
     ∷ (StoreContext 0, 0)
     ∷ (StoreMask 0, 0)
     ∷ (StoreMode 2, 17)
@@ -205,11 +197,11 @@ pub user-effects :
     Effects
     ((before, Access 0 0, before)
     ∷ (before, Access 1 0, user figure (live 7 3 User true))
-    ∷ (before, Grant 0 (page 1) (domain 4), user (fieldsOf 9 0 26 2 12 4) (live 7 3 User false))
-    ∷ (before, Grant 1 (page 1) (domain 3), user (fieldsOf 9 0 10 10 12 4) (live 7 3 User false))
-    ∷ (before, Grant 0 (page 1) (domain 3), before)
-    ∷ (before, Revoke 0 (page 1) (domain 3), user (fieldsOf 9 0 2 2 12 4) (live 7 3 User false))
-    ∷ (before, Revoke 0 (page 1) (domain 4), before)
+    ∷ (before, Grant 0 (asPage 1) (asDomain 4), user (fieldsOf 9 0 26 2 12 4) (live 7 3 User false))
+    ∷ (before, Grant 1 (asPage 1) (asDomain 3), user (fieldsOf 9 0 10 10 12 4) (live 7 3 User false))
+    ∷ (before, Grant 0 (asPage 1) (asDomain 3), before)
+    ∷ (before, Revoke 0 (asPage 1) (asDomain 3), user (fieldsOf 9 0 2 2 12 4) (live 7 3 User false))
+    ∷ (before, Revoke 0 (asPage 1) (asDomain 4), before)
     ∷ (before, SetMask 65528, user figure (live 7 65528 User false))
     ∷ [])
 unfolding callOf checksOf accessChecks changeChecks effectOf after isSound prevailing domainBit trailingZeros
@@ -239,8 +231,8 @@ pub kernel-effects :
     Effects
     ((before, Switch 1, kernel figure (live 8 65535 Privileged false) 1 Privileged (stored 7 3 User))
     ∷ (before, Switch 0, kernel figure (live 7 3 Privileged false) 0 User (stored 7 3 User))
-    ∷ (before, StoreField 1 (page 2) 65280, kernel (fieldsOf 9 0 10 2 12 65280) (live 7 3 Privileged false) 0 User entry)
-    ∷ (before, StoreField 0 (page 0) 0, kernel (fieldsOf 0 0 10 2 12 4) (live 7 3 Privileged false) 0 User entry)
+    ∷ (before, StoreField 1 (asPage 2) 65280, kernel (fieldsOf 9 0 10 2 12 65280) (live 7 3 Privileged false) 0 User entry)
+    ∷ (before, StoreField 0 (asPage 0) 0, kernel (fieldsOf 0 0 10 2 12 4) (live 7 3 Privileged false) 0 User entry)
     ∷ (before, StoreContext 65280, kernel figure (live 65280 3 Privileged false) 0 User entry)
     ∷ (before, StoreMask 65280, kernel figure (live 7 65280 Privileged false) 0 User entry)
     ∷ (before, StoreMode 0, kernel figure (live 7 3 User false) 0 User entry)

@@ -24,6 +24,13 @@ use Rattle.machine.specs.Machine.{isSound, memorySize, placeOf, fieldOf,
 abbrev pub isRight : ℕ → Bool
 isRight right = leb right 1
 
+-- a page and a domain by number
+abbrev pub asPage : ℕ → Page
+asPage p = record { 0 = p }
+
+abbrev pub asDomain : ℕ → Domain
+asDomain s = record { 0 = s }
+
 abbrev pub inPrivilegedMode : Machine → Bool
 inPrivilegedMode m = isPrivileged (m .registers .mode)
 

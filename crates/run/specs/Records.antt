@@ -3,20 +3,12 @@ use Prim.Native.Nat.{ℕ, _+_, _*_}
 use mathlib.Core.List.{List, [], _∷_}
 use lib.ListN.{getD}
 use Rattle.image.specs.Bytes.{wordOf}
-use Rattle.machine.specs.Calls.{callOf}
+use Rattle.machine.specs.Calls.{asPage, asDomain, callOf}
 use Rattle.machine.specs.declared.record.Machine.{Machine}
 use Rattle.machine.specs.declared.record.Answered.{Answered}
-use Rattle.machine.specs.declared.record.Page.{Page}
-use Rattle.machine.specs.declared.record.Domain.{Domain}
 use Rattle.machine.specs.declared.record.Call.the-variants.{Access, Grant, Revoke, SetMask, Enter, Return, Switch, StoreField, StoreContext, StoreMask, StoreMode}
 use Rattle.run.specs.declared.records.Decoded.{Decoded}
 use Rattle.run.specs.declared.records.Decoded.the-variants.{Known, Unknown}
-
-abbrev pub asPage : ℕ → Page
-asPage a = record { 0 = a }
-
-abbrev pub asDomain : ℕ → Domain
-asDomain b = record { 0 = b }
 
 -- "Kinds: 1 access, address A × 65,536 + B; 2 grant and 3 revoke, page A, domain B; 4 mask B; 5 entry; 6 return; 7 switch to B;
 -- 8 field of page A becomes B; 9 global context B; 10 mask B by the kernel; 11 mode B. Unused parts are ignored.": what stands at
