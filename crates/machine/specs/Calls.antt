@@ -24,7 +24,7 @@ use Rattle.machine.specs.Machine.{isSound, memorySize, placeOf, fieldOf,
 abbrev pub isRight : ℕ → Bool
 isRight right = leb right 1
 
--- a page and a domain by number
+-- "A page number and a domain number are separate types": the page and the domain of a number
 abbrev pub asPage : ℕ → Page
 asPage p = record { 0 = p }
 

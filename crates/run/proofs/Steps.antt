@@ -12,13 +12,22 @@ use lib.ListN.{length, getD, set, drop, length-drop, List·getD-eq-default}
 use lib.Seq.{getD-drop, drop-drop, sets}
 use Rattle.image.specs.Bytes.{wordOf}
 use Rattle.machine.specs.Machine.{withFields}
-use Rattle.machine.specs.Calls.{keeping}
+use Rattle.machine.specs.Calls.{callOf, keeping}
 use Rattle.machine.specs.declared.record.Machine.{Machine}
 use Rattle.machine.specs.declared.record.Answered.{Answered}
+use Rattle.machine.specs.declared.record.Call.{Call}
 use Rattle.run.specs.Records.{kinds, callOfKind, callsOf, stepOf}
 use Rattle.run.specs.Run.{answersFrom}
 use Rattle.run.specs.declared.records.Decoded.{Decoded}
-use Rattle.run.specs.declared.records.Decoded.the-variants.{Unknown}
+use Rattle.run.specs.declared.records.Decoded.the-variants.{Known, Unknown}
+
+-- a step on a record that was decoded to a call is that call
+pub made : (lent : List ℕ) (m : Machine) (call : Call) {after : List ℕ} {decoded : Decoded} {known : Call} {r : Answered}
+    → decoded ≡ Known known → known ≡ call
+    → (r ≡ keeping (m .fields) (callOf (withFields lent m) call)) × (after ≡ callOf (withFields lent m) call .machine .fields)
+    → (r ≡ keeping (m .fields) (stepOf (withFields lent m) decoded)) × (after ≡ stepOf (withFields lent m) decoded .machine .fields)
+unfolding stepOf
+made lent m call decodes is answer = rw (decodes, is) answer
 
 pub above : {n k : ℕ} → n ≤ k → (k ≡ n → ⊥) → n + 1 ≤ k
 above least other = omega arith

@@ -4,6 +4,7 @@ use mathlib.Core.Bool.{true, false}
 use Rattle.machine.specs.declared.record.Call.the-variants.{Grant, Revoke, SetMask, Enter, Return, Switch, StoreField, StoreContext, StoreMask, StoreMode}
 use Rattle.machine.proofs.LentFields.{looked-aside, access-kept, lent-alone, change-alone, store-alone}
 use Rattle.run.specs.Records.{stepOf}
+use Rattle.run.proofs.Steps.{made}
 use borrow.Author.Needs.{needs}
 use Rattle.run.proofs.records.step.Statement.{statement}
 use Rattle.run.proofs.records.step.Tie as tie
@@ -29,10 +30,9 @@ same-length : tie.Need-same-length
 same-length c = search needs
 
 returns-2 : tie.Need-returns-2
-unfolding stepOf
 returns-2 c =
-    let a = c .before .before .before .before .before .before .before .before .before .args in
-    rw (c .before .before .before .before .before .before .decoded .given .1, c .before .before .before .call .given .1) (c .access-lent .ensures, access-kept (a .fields .now) (a .machine) _ _)
+    made _ _ _ (c .before .before .before .before .before .before .decoded .given .1) (c .before .before .before .call .given .1)
+    (c .access-lent .ensures, access-kept _ (c .before .before .before .before .before .before .before .before .before .args .machine) _ _)
 
 enum-known-call-2 : tie.Need-enum-known-call-2
 enum-known-call-2 c = search needs
@@ -44,11 +44,10 @@ same-length-2 : tie.Need-same-length-2
 same-length-2 c = search needs
 
 returns-3 : tie.Need-returns-3
-unfolding stepOf
 returns-3 c =
-    let a = c .before .before .before .before .before .before .before .before .before .before .before .args in
-    rw (c .before .before .before .before .before .before .before .before .decoded .given .1, c .before .before .before .before .before .call2 .given .1)
-    (lent-alone (a .fields .now) (a .machine) (Grant _ _ _) (change-alone _ true _ _ _) (c .before .before .change-lent .ensures .0), c .before .before .change-lent .ensures .1)
+    made _ _ _ (c .before .before .before .before .before .before .before .before .decoded .given .1)
+    (c .before .before .before .before .before .call2 .given .1)
+    (lent-alone _ _ (Grant _ _ _) (change-alone _ true _ _ _) (c .before .before .change-lent .ensures .0), c .before .before .change-lent .ensures .1)
 
 enum-known-call-3 : tie.Need-enum-known-call-3
 enum-known-call-3 c = search needs
@@ -60,11 +59,10 @@ same-length-3 : tie.Need-same-length-3
 same-length-3 c = search needs
 
 returns-4 : tie.Need-returns-4
-unfolding stepOf
 returns-4 c =
-    let a = c .before .before .before .before .before .before .before .before .before .before .before .args in
-    rw (c .before .before .before .before .before .before .before .before .decoded .given .1, c .before .before .before .before .before .call3 .given .1)
-    (lent-alone (a .fields .now) (a .machine) (Revoke _ _ _) (change-alone _ false _ _ _) (c .before .before .change-lent2 .ensures .0), c .before .before .change-lent2 .ensures .1)
+    made _ _ _ (c .before .before .before .before .before .before .before .before .decoded .given .1)
+    (c .before .before .before .before .before .call3 .given .1)
+    (lent-alone _ _ (Revoke _ _ _) (change-alone _ false _ _ _) (c .before .before .change-lent2 .ensures .0), c .before .before .change-lent2 .ensures .1)
 
 enum-known-call-4 : tie.Need-enum-known-call-4
 enum-known-call-4 c = search needs
@@ -73,10 +71,9 @@ set-mask-requires : tie.Need-set-mask-requires
 set-mask-requires c κs = search needs
 
 returns-5 : tie.Need-returns-5
-unfolding stepOf
 returns-5 c =
-    let a = c .before .before .before .before .before .before .before .before .args in
-    rw (c .before .before .before .before .before .decoded .given .1, c .before .before .call4 .given .1) (looked-aside (a .fields .now) (a .machine) (SetMask _) refl (c .set-mask .ensures))
+    made _ _ _ (c .before .before .before .before .before .decoded .given .1) (c .before .before .call4 .given .1)
+    (looked-aside _ _ (SetMask _) refl (c .set-mask .ensures))
 
 enum-told-2 : tie.Need-enum-told-2
 enum-told-2 c = search needs
@@ -85,10 +82,9 @@ enter-requires : tie.Need-enter-requires
 enter-requires c κs = search needs
 
 returns-6 : tie.Need-returns-6
-unfolding stepOf
 returns-6 c =
-    let a = c .before .before .before .before .before .before .before .args in
-    rw (c .before .before .before .before .decoded .given .1, c .before .enum-told2 .given .1) (looked-aside (a .fields .now) (a .machine) (Enter) refl (c .enter .ensures))
+    made _ _ _ (c .before .before .before .before .decoded .given .1) (c .before .enum-told2 .given .1)
+    (looked-aside _ _ Enter refl (c .enter .ensures))
 
 enum-told-3 : tie.Need-enum-told-3
 enum-told-3 c = search needs
@@ -97,10 +93,9 @@ leave-requires : tie.Need-leave-requires
 leave-requires c κs = search needs
 
 returns-7 : tie.Need-returns-7
-unfolding stepOf
 returns-7 c =
-    let a = c .before .before .before .before .before .before .before .args in
-    rw (c .before .before .before .before .decoded .given .1, c .before .enum-told3 .given .1) (looked-aside (a .fields .now) (a .machine) (Return) refl (c .leave .ensures))
+    made _ _ _ (c .before .before .before .before .decoded .given .1) (c .before .enum-told3 .given .1)
+    (looked-aside _ _ Return refl (c .leave .ensures))
 
 enum-known-call-5 : tie.Need-enum-known-call-5
 enum-known-call-5 c = search needs
@@ -109,10 +104,9 @@ switch-to-requires : tie.Need-switch-to-requires
 switch-to-requires c κs = search needs
 
 returns-8 : tie.Need-returns-8
-unfolding stepOf
 returns-8 c =
-    let a = c .before .before .before .before .before .before .before .before .args in
-    rw (c .before .before .before .before .before .decoded .given .1, c .before .before .call5 .given .1) (looked-aside (a .fields .now) (a .machine) (Switch _) refl (c .switch-to .ensures))
+    made _ _ _ (c .before .before .before .before .before .decoded .given .1) (c .before .before .call5 .given .1)
+    (looked-aside _ _ (Switch _) refl (c .switch-to .ensures))
 
 enum-known-call-6 : tie.Need-enum-known-call-6
 enum-known-call-6 c = search needs
@@ -124,11 +118,10 @@ same-length-4 : tie.Need-same-length-4
 same-length-4 c = search needs
 
 returns-9 : tie.Need-returns-9
-unfolding stepOf
 returns-9 c =
-    let a = c .before .before .before .before .before .before .before .before .before .before .before .args in
-    rw (c .before .before .before .before .before .before .before .before .decoded .given .1, c .before .before .before .before .before .call6 .given .1)
-    (lent-alone (a .fields .now) (a .machine) (StoreField _ _ _) (store-alone _ _ _ _) (c .before .before .store-lent .ensures .0), c .before .before .store-lent .ensures .1)
+    made _ _ _ (c .before .before .before .before .before .before .before .before .decoded .given .1)
+    (c .before .before .before .before .before .call6 .given .1)
+    (lent-alone _ _ (StoreField _ _ _) (store-alone _ _ _ _) (c .before .before .store-lent .ensures .0), c .before .before .store-lent .ensures .1)
 
 enum-known-call-7 : tie.Need-enum-known-call-7
 enum-known-call-7 c = search needs
@@ -137,10 +130,9 @@ store-context-requires : tie.Need-store-context-requires
 store-context-requires c κs = search needs
 
 returns-10 : tie.Need-returns-10
-unfolding stepOf
 returns-10 c =
-    let a = c .before .before .before .before .before .before .before .before .args in
-    rw (c .before .before .before .before .before .decoded .given .1, c .before .before .call7 .given .1) (looked-aside (a .fields .now) (a .machine) (StoreContext _) refl (c .store-context .ensures))
+    made _ _ _ (c .before .before .before .before .before .decoded .given .1) (c .before .before .call7 .given .1)
+    (looked-aside _ _ (StoreContext _) refl (c .store-context .ensures))
 
 enum-known-call-8 : tie.Need-enum-known-call-8
 enum-known-call-8 c = search needs
@@ -149,10 +141,9 @@ store-mask-requires : tie.Need-store-mask-requires
 store-mask-requires c κs = search needs
 
 returns-11 : tie.Need-returns-11
-unfolding stepOf
 returns-11 c =
-    let a = c .before .before .before .before .before .before .before .before .args in
-    rw (c .before .before .before .before .before .decoded .given .1, c .before .before .call8 .given .1) (looked-aside (a .fields .now) (a .machine) (StoreMask _) refl (c .store-mask .ensures))
+    made _ _ _ (c .before .before .before .before .before .decoded .given .1) (c .before .before .call8 .given .1)
+    (looked-aside _ _ (StoreMask _) refl (c .store-mask .ensures))
 
 enum-known-call-9 : tie.Need-enum-known-call-9
 enum-known-call-9 c = search needs
@@ -161,10 +152,9 @@ store-mode-requires : tie.Need-store-mode-requires
 store-mode-requires c κs = search needs
 
 returns-12 : tie.Need-returns-12
-unfolding stepOf
 returns-12 c =
-    let a = c .before .before .before .before .before .before .before .before .args in
-    rw (c .before .before .before .before .before .decoded .given .1, c .before .before .call9 .given .1) (looked-aside (a .fields .now) (a .machine) (StoreMode _) refl (c .store-mode .ensures))
+    made _ _ _ (c .before .before .before .before .before .decoded .given .1) (c .before .before .call9 .given .1)
+    (looked-aside _ _ (StoreMode _) refl (c .store-mode .ensures))
 
 pub step-spec : {M : Type 1} → statement M
 step-spec =
