@@ -7,7 +7,7 @@ use borrow.Author.Tests.{ne-eqb}
 use native.Mathlib.Omega.{arith}
 use lib.ListN.{length, getD}
 use Rattle.rules.specs.Refusals.{first, pick}
-use Rattle.machine.specs.Machine.{isSound, noMode, noProgram, zero}
+use Rattle.machine.specs.Machine.{isSound, noProgram, zero}
 use Rattle.machine.specs.declared.record.Machine.{Machine}
 use Rattle.machine.specs.Listed.{isIn}
 use Rattle.machine.proofs.Sound.{facts-sound}
@@ -27,7 +27,7 @@ pub record Loaded (m : Machine) : Type 0 where
   pub no-depth : m .depth ≡ 0
   pub no-field : (i : ℕ) → 2 * m .pages ≤ i → getD (m .fields) i 0 ≡ 0
   pub no-program : (i : ℕ) → m .programs ≤ i → getD (m .table) i noProgram ≡ noProgram
-  pub no-mode : (i : ℕ) → getD (m .saved) i noMode ≡ noMode
+  pub no-mode : (i : ℕ) → getD (m .saved) i false ≡ false
 
 module _ (s : List ℕ) (passed : Passed s) where
   described : Loaded (machineOf (describe s))
@@ -55,7 +55,7 @@ module _ (s : List ℕ) (passed : Passed s) where
         no-depth = refl;
         no-field = λ i past. pad-past 0 256 (fieldsOf s) i (omega arith);
         no-program = λ i past. pad-past noProgram 8 programs i past;
-        no-mode = λ i. pad-past noMode 8 [] i (omega arith);
+        no-mode = λ i. pad-past false 8 [] i (omega arith);
       }
 
 -- a machine that is loaded is one such

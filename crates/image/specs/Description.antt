@@ -7,7 +7,7 @@ use lib.ListN.{length, getD, replicate}
 use Rattle.rules.specs.declared.registers.Mode.{Mode}
 use Rattle.rules.specs.declared.registers.Mode.the-variants.{User, Privileged}
 use Rattle.rules.specs.declared.registers.Registers.{Registers}
-use Rattle.machine.specs.Machine.{noMode, noProgram}
+use Rattle.machine.specs.Machine.{noProgram}
 use Rattle.machine.specs.declared.record.Machine.{Machine}
 use Rattle.machine.specs.declared.record.Program.{Program}
 use Rattle.image.specs.Bytes.{word, bodies}
@@ -84,7 +84,7 @@ machineOf d =
       fields = pad 256 0 (d .fields);
       registers = liveOf (getD (d .programs) 0 noProgram);
       depth = 0;
-      saved = replicate 8 noMode;
+      saved = replicate 8 false;
       programs = length (d .programs);
       current = 0;
       table = pad 8 noProgram (d .programs);

@@ -5,7 +5,7 @@ use mathlib.Core.List.{List, [], _∷_, _++_}
 use lib.ListN.{replicate}
 use Rattle.rules.specs.declared.registers.Mode.the-variants.{User}
 use Rattle.rules.specs.declared.registers.Registers.{Registers}
-use Rattle.machine.specs.Machine.{noMode, noProgram}
+use Rattle.machine.specs.Machine.{noProgram}
 use Rattle.machine.specs.declared.record.Machine.{Machine}
 use Rattle.machine.specs.declared.record.Program.{Program}
 use Rattle.image.specs.Description.{Description}
@@ -48,7 +48,7 @@ node fields registers =
       fields = fields ++ replicate 250 0;
       registers = registers;
       depth = 0;
-      saved = replicate 8 noMode;
+      saved = replicate 8 false;
       programs = 2;
       current = 0;
       table = samplePrograms ++ replicate 6 noProgram;

@@ -10,7 +10,6 @@ use machine::calls::mode_of;
 use machine::record::Answered;
 use machine::record::Machine;
 use machine::record::Program;
-use machine::record::Saved;
 use rules::registers::Mode;
 use rules::registers::Registers;
 ghost use mathlib.Core.Path.{_≡_};
@@ -81,7 +80,7 @@ fn machine_of(bytes: &[u8]) -> Machine
             pending: false,
         },
         depth: 0,
-        saved: [Saved { mode: Mode::User }; 8],
+        saved: [false; 8],
         programs: byte_at(bytes, 20) as u16,
         current: 0,
         table,

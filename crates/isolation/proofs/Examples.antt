@@ -14,7 +14,7 @@ use Rattle.rules.specs.declared.domains.Prevailing.the-variants.{At}
 use Rattle.rules.specs.declared.registers.Mode.{Mode}
 use Rattle.rules.specs.declared.registers.Mode.the-variants.{User, Privileged}
 use Rattle.rules.proofs.Laws.{no-domain-bit}
-use Rattle.machine.specs.Machine.{fieldOf, isSound, noMode, noProgram}
+use Rattle.machine.specs.Machine.{fieldOf, isSound, noProgram}
 use Rattle.machine.specs.Calls.{asPage, asDomain, accessChecks, after, callOf, checksOf, changeChecks, effectOf, entered, returned, switched}
 use Rattle.machine.specs.declared.record.Machine.{Machine}
 use Rattle.machine.specs.declared.record.Call.the-variants.{Access, Enter, Grant, Return, Revoke, SetMask, Switch}
@@ -36,7 +36,7 @@ node programs mode =
       fields = (0x0009 ∷ 0x0000 ∷ 0x000A ∷ 0x0002 ∷ 0x000C ∷ 0x0004 ∷ []) ++ replicate 250 0;
       registers = record { context = 0x0007; mask = 0x0003; mode = mode; pending = false };
       depth = 0;
-      saved = replicate 8 noMode;
+      saved = replicate 8 false;
       programs = programs;
       current = 0;
       table =
@@ -188,7 +188,7 @@ sharing =
       fields = (0x0003 ∷ 0x8000 ∷ []) ++ replicate 254 0;
       registers = record { context = 0x8002; mask = 0xFFFF; mode = User; pending = false };
       depth = 0;
-      saved = replicate 8 noMode;
+      saved = replicate 8 false;
       programs = 2;
       current = 0;
       table =

@@ -1,6 +1,6 @@
 -- The shape of an answer: from a call's number and what the code changed to `callOf`, for each kind of change.
 use Prim.Native.Nat.{ℕ, _-_, _<_}
-use mathlib.Core.Path.{_≡_, refl, ap, _∙_}
+use mathlib.Core.Path.{_≡_, refl, ap, sym, _∙_}
 use mathlib.Core.Bool.{Bool, true, false, not, _&&_}
 use mathlib.Core.List.{List, [], _∷_}
 use borrow.Author.Tests.{eqb-true, eqb-false, ne-eqb, ltb-true, not-true, not-false}
@@ -13,9 +13,8 @@ use Rattle.rules.specs.Domains.{prevailing, withBit, withoutBit}
 use Rattle.rules.specs.Refusals.{Check, _⇒_, first, pick}
 use Rattle.rules.specs.declared.registers.Registers.{Registers}
 use Rattle.machine.specs.Machine.{isSound, fieldOf, placeOf, withFields, withRegisters, withStack, withPrograms}
-use Rattle.machine.specs.Calls.{callOf, changeCall, checksOf, changeChecks, effectOf, inUserMode, numberOf, after, violated}
+use Rattle.machine.specs.Calls.{callOf, uncheckedOf, answerBy, ownNumberOf, changeCall, checksOf, changeChecks, effectOf, inUserMode, numberOf, after, violated}
 use Rattle.machine.specs.declared.record.Machine.{Machine}
-use Rattle.machine.specs.declared.record.Saved.{Saved}
 use Rattle.machine.specs.declared.record.Program.{Program}
 use Rattle.machine.specs.declared.record.Page.{Page}
 use Rattle.machine.specs.declared.record.Domain.{Domain}
@@ -67,6 +66,9 @@ after-both R n {m} {m′} {effect} {effect′} done violation same = split (eqb 
 pub not-nine : (m : Machine) (call : Call) → avoids 9 (checksOf m call) ≡ true → numberOf m call ≡ 9 → ⊥
 not-nine m call never = eqb-false (numberOf m call) 9 (first-avoids 9 ((not (isSound m) ⇒ 1) ∷ checksOf m call) never)
 
+pub own-not-nine : (m : Machine) (call : Call) → avoids 9 (checksOf m call) ≡ true → ownNumberOf m call ≡ 9 → ⊥
+own-not-nine m call never = eqb-false (ownNumberOf m call) 9 (first-avoids 9 (checksOf m call) never)
+
 module _ (m : Machine) (call : Call) where
   -- an accepted call: the machine is sound, and no condition of the call is met
   pub accepted : numberOf m call ≡ 0 → (isSound m ≡ true) × (first (checksOf m call) ≡ 0)
@@ -74,29 +76,48 @@ module _ (m : Machine) (call : Call) where
       let p = none-met (not (isSound m)) 1 (checksOf m call) h refl in
       (not-false (isSound m) (p .0), p .1)
 
+  -- a call is the one without the check for 1 behind one test for soundness: 1, and the machine as it was, where it is not sound
+  pub call-checked : callOf m call ≡ pick (isSound m) (uncheckedOf m call) (record { number = 1; machine = m })
+  unfolding callOf uncheckedOf after
+  call-checked = split (isSound m)
+    where
+      split : (b : Bool)
+          → answerBy (pick (not b) 1 (ownNumberOf m call)) m call ≡ pick b (uncheckedOf m call) (record { number = 1; machine = m })
+      split true = refl
+      split false = refl
+
+  -- the public methods
+  pub checked-call : {r answer : Answered} → r ≡ pick (isSound m) answer (record { number = 1; machine = m }) → answer ≡ uncheckedOf m call
+      → r ≡ callOf m call
+  checked-call tested answers = rw (tested, answers) (sym call-checked)
+
+  -- on a sound machine the two are one
+  pub sound-unchecked : isSound m ≡ true → callOf m call ≡ uncheckedOf m call
+  sound-unchecked sound = rw (call-checked, sound)
+
   -- a call that never answers 9 and leaves its effect where it is done and the machine as it was where it is refused
-  pub answered : {n : ℕ} {end : Machine} → n ≡ numberOf m call → avoids 9 (checksOf m call) ≡ true
+  pub answered : {n : ℕ} {end : Machine} → n ≡ ownNumberOf m call → avoids 9 (checksOf m call) ≡ true
       → end ≡ pick (eqb n 0) (effectOf m call) m
-      → _≡_ {A = Answered} (record { number = n; machine = end }) (callOf m call)
-  unfolding callOf after
+      → _≡_ {A = Answered} (record { number = n; machine = end }) (uncheckedOf m call)
+  unfolding uncheckedOf after
   answered {n} {end} number never changed =
-      let nine = first-avoids 9 ((not (isSound m) ⇒ 1) ∷ checksOf m call) never in
+      let nine = first-avoids 9 (checksOf m call) never in
       rw (changed, number, nine)
 
   -- the same by the two cases: the call is done, or it is refused
-  pub done : {n : ℕ} {end : Machine} → n ≡ numberOf m call → n ≡ 0 → end ≡ effectOf m call
-      → _≡_ {A = Answered} (record { number = n; machine = end }) (callOf m call)
-  unfolding callOf after
+  pub done : {n : ℕ} {end : Machine} → n ≡ ownNumberOf m call → n ≡ 0 → end ≡ effectOf m call
+      → _≡_ {A = Answered} (record { number = n; machine = end }) (uncheckedOf m call)
+  unfolding uncheckedOf after
   done {n} {end} number zero changed = rw (changed, ← number, zero)
 
-  pub kept : {n : ℕ} {end : Machine} → n ≡ numberOf m call → avoids 9 (checksOf m call) ≡ true → (n ≡ 0 → ⊥) → end ≡ m
-      → _≡_ {A = Answered} (record { number = n; machine = end }) (callOf m call)
+  pub kept : {n : ℕ} {end : Machine} → n ≡ ownNumberOf m call → avoids 9 (checksOf m call) ≡ true → (n ≡ 0 → ⊥) → end ≡ m
+      → _≡_ {A = Answered} (record { number = n; machine = end }) (uncheckedOf m call)
   kept {n} {end} number never refused same = answered number never (rw (ne-eqb n 0 refused) same)
 
   -- one that changes the registers alone
-  pub registers-answered : {n : ℕ} {r new : Registers} → n ≡ numberOf m call → avoids 9 (checksOf m call) ≡ true
+  pub registers-answered : {n : ℕ} {r new : Registers} → n ≡ ownNumberOf m call → avoids 9 (checksOf m call) ≡ true
       → effectOf m call ≡ withRegisters new m → r ≡ pick (eqb n 0) new (m .registers)
-      → _≡_ {A = Answered} (record { number = n; machine = withRegisters r m }) (callOf m call)
+      → _≡_ {A = Answered} (record { number = n; machine = withRegisters r m }) (uncheckedOf m call)
   registers-answered {n} {r} {new} number never effect changed =
       answered number never (rw (changed, effect) (split (eqb n 0)))
     where
@@ -105,9 +126,9 @@ module _ (m : Machine) (call : Call) where
       split false = refl
 
   -- one that changes the field at a place alone
-  pub field-answered : {n : ℕ} {fields : List ℕ} (at new : ℕ) → n ≡ numberOf m call → avoids 9 (checksOf m call) ≡ true
+  pub field-answered : {n : ℕ} {fields : List ℕ} (at new : ℕ) → n ≡ ownNumberOf m call → avoids 9 (checksOf m call) ≡ true
       → effectOf m call ≡ withFields (set (m .fields) at new) m → fields ≡ pick (eqb n 0) (set (m .fields) at new) (m .fields)
-      → _≡_ {A = Answered} (record { number = n; machine = withFields fields m }) (callOf m call)
+      → _≡_ {A = Answered} (record { number = n; machine = withFields fields m }) (uncheckedOf m call)
   field-answered {n} {fields} at new number never effect changed =
       answered number never (rw (changed, effect) (split (eqb n 0)))
     where
@@ -122,9 +143,9 @@ stored l at false new = set-getD l at 0
 
 -- a call that stores a field where it is accepted, from the field that it read
 pub store-answered : (m : Machine) (call : Call) {n : ℕ} {fields : List ℕ} {field bits : ℕ} (at new : ℕ)
-    → field ≡ getD (m .fields) at 0 → n ≡ numberOf m call → avoids 9 (checksOf m call) ≡ true
+    → field ≡ getD (m .fields) at 0 → n ≡ ownNumberOf m call → avoids 9 (checksOf m call) ≡ true
     → effectOf m call ≡ withFields (set (m .fields) at new) m → bits ≡ pick (eqb n 0) new field → fields ≡ set (m .fields) at bits
-    → _≡_ {A = Answered} (record { number = n; machine = withFields fields m }) (callOf m call)
+    → _≡_ {A = Answered} (record { number = n; machine = withFields fields m }) (uncheckedOf m call)
 store-answered m call {n} {fields} {field} {bits} at new read number never effect chosen written =
     field-answered m call at new number never effect
     (written ∙ rw (chosen, read) (stored (m .fields) at (eqb n 0) new))
@@ -151,10 +172,10 @@ module _ (m : Machine) (right : ℕ) (page : Page) (s : Domain) where
   -- a grant or a revocation, from what its code read, worked out and stored
   pub change-answered : (granting : Bool) {n : ℕ} {fields : List ℕ} {field at bits : ℕ}
       → field ≡ getD (m .fields) at 0 → at ≡ placeOf right (page .0)
-      → n ≡ pick (not (isSound m)) 1 (first (changeChecks m right page s (prevailing field)))
+      → n ≡ first (changeChecks m right page s (prevailing field))
       → bits ≡ pick (eqb n 0) (pick granting (withBit field (s .0)) (withoutBit field (s .0))) field → fields ≡ set (m .fields) at bits
       → _≡_ {A = Answered} (record { number = n; machine = withFields fields m })
-      (callOf m (changeCall granting right page s))
+      (uncheckedOf m (changeCall granting right page s))
   unfolding changeChecks
   change-answered granting {n} {fields} {field} {at} {bits} read place number chosen written =
       let call = changeCall granting right page s in
@@ -162,10 +183,10 @@ module _ (m : Machine) (right : ℕ) (page : Page) (s : Domain) where
       (change-effect granting ∙ rw (← place, ← read)) chosen written
 
 -- an access changes nothing but the flag, and that where it answers 9
-pub access-answered : (m : Machine) (right address : ℕ) {n : ℕ} {r : Registers} → n ≡ numberOf m (Access right address)
+pub access-answered : (m : Machine) (right address : ℕ) {n : ℕ} {r : Registers} → n ≡ ownNumberOf m (Access right address)
     → r ≡ pick (eqb n 9) (withPending true (m .registers)) (m .registers)
-    → _≡_ {A = Answered} (record { number = n; machine = withRegisters r m }) (callOf m (Access right address))
-unfolding callOf after effectOf
+    → _≡_ {A = Answered} (record { number = n; machine = withRegisters r m }) (uncheckedOf m (Access right address))
+unfolding uncheckedOf after effectOf
 access-answered m right address {n} {r} number changed =
     rw (changed, ← number) (ap (λ (end : Machine). record { number = n; machine = end }) (kept n ∙ done (eqb n 0) refl))
   where
@@ -181,12 +202,12 @@ access-answered m right address {n} {r} number changed =
     done false e = refl
 
 -- the stack and the registers put in
-pub with-stack : (m : Machine) {d d′ : ℕ} {s s′ : List Saved} {r r′ : Registers} → d ≡ d′ → s ≡ s′ → r ≡ r′
+pub with-stack : (m : Machine) {d d′ : ℕ} {s s′ : List Bool} {r r′ : Registers} → d ≡ d′ → s ≡ s′ → r ≡ r′
     → withStack d s (withRegisters r m) ≡ withStack d′ s′ (withRegisters r′ m)
 with-stack m p q e = rw (p, q, e)
 
 -- the same with the current program and the table
-pub with-programs : (m : Machine) {p p′ : ℕ} {t t′ : List Program} {s s′ : List Saved} {r r′ : Registers}
+pub with-programs : (m : Machine) {p p′ : ℕ} {t t′ : List Program} {s s′ : List Bool} {r r′ : Registers}
     → p ≡ p′ → t ≡ t′ → s ≡ s′ → r ≡ r′
     → withPrograms p t (withStack (m .depth) s (withRegisters r m)) ≡ withPrograms p′ t′ (withStack (m .depth) s′ (withRegisters r′ m))
 with-programs m e f g h = rw (e, f, g, h)
@@ -196,14 +217,7 @@ pub entry-below : (m : Machine) → numberOf m Enter ≡ 0 → m .depth < 8
 unfolding checksOf
 entry-below m h =
     let a = accepted m Enter h in
-    let s = sound-facts m (a .0) in
-    let e = eqb-false (m .depth) 8 (none-met (eqb (m .depth) 8) 13 [] (a .1) refl .0) in
-    omega arith
-
-pub return-within : (m : Machine) → numberOf m Return ≡ 0 → m .depth - 1 < 8
-return-within m h =
-    let s = sound-facts m (accepted m Return h .0) in
-    omega arith
+    ltb-true (m .depth) 8 (not-false (ltb (m .depth) 8) (none-met (not (ltb (m .depth) 8)) 13 [] (a .1) refl .0))
 
 module _ (m : Machine) (program : ℕ) (h : numberOf m (Switch program) ≡ 0) where
   switch-conditions : (inUserMode m ≡ false) × (not (eqb (m .depth) 1) ≡ false) × (not (ltb program (m .programs)) ≡ false)
@@ -223,6 +237,12 @@ module _ (m : Machine) (program : ℕ) (h : numberOf m (Switch program) ≡ 0) w
 
   pub switch-depth : m .depth ≡ 1
   switch-depth = eqb-true (m .depth) 1 (not-false (eqb (m .depth) 1) (switch-conditions .1))
+
+-- the places that accepted calls of a sound machine reach
+pub return-within : (m : Machine) → numberOf m Return ≡ 0 → m .depth - 1 < 8
+return-within m h =
+    let s = sound-facts m (accepted m Return h .0) in
+    omega arith
 
 pub switch-within : (m : Machine) (program : ℕ) → numberOf m (Switch program) ≡ 0 → (m .current < 8) × (program < 8)
 switch-within m program h =

@@ -5,21 +5,21 @@ use mathlib.Core.Path.{_≡_, refl}
 use mathlib.Core.Bool.{Bool, true, false}
 use mathlib.Core.List.{List, [], _∷_, map}
 use lib.ListN.{replicate}
+use Rattle.rules.specs.Registers.{isPrivileged}
 use Rattle.rules.specs.declared.registers.Mode.{Mode}
 use Rattle.rules.specs.declared.registers.Mode.the-variants.{User, Privileged}
 use Rattle.rules.specs.declared.registers.Registers.{Registers}
 use lib.Count.{trailingZeros}
 use Rattle.rules.specs.Domains.{prevailing, domainBit}
-use Rattle.machine.specs.Machine.{isSound, noMode, noProgram, withRegisters}
+use Rattle.machine.specs.Machine.{isSound, noProgram, withRegisters}
 use Rattle.machine.specs.Calls.{asPage, asDomain, callOf, checksOf, accessChecks, changeChecks, effectOf, entered, returned, switched, after}
 use Rattle.machine.specs.declared.record.Machine.{Machine}
-use Rattle.machine.specs.declared.record.Saved.{Saved}
 use Rattle.machine.specs.declared.record.Program.{Program}
 use Rattle.machine.specs.declared.record.Call.{Call}
 use Rattle.machine.specs.declared.record.Call.the-variants.{Access, Grant, Revoke, SetMask, Enter, Return, Switch, StoreField, StoreContext, StoreMask, StoreMode}
 
 -- three pages and two programs
-abbrev paged : ℕ → List ℕ → Registers → ℕ → List Saved → ℕ → List Program → Machine
+abbrev paged : ℕ → List ℕ → Registers → ℕ → List Bool → ℕ → List Program → Machine
 paged exponent fields registers depth saved current table =
     record {
       pages = 3;
@@ -34,7 +34,7 @@ paged exponent fields registers depth saved current table =
     }
 
 -- pages of 256 bytes
-abbrev written : List ℕ → Registers → ℕ → List Saved → ℕ → List Program → Machine
+abbrev written : List ℕ → Registers → ℕ → List Bool → ℕ → List Program → Machine
 written = paged 8
 
 -- the six fields, READ and WRITE of each page in turn, and zero past them
@@ -49,8 +49,8 @@ abbrev live : ℕ → ℕ → Mode → Bool → Registers
 live context mask mode pending = record { context = context; mask = mask; mode = mode; pending = pending }
 
 -- the first two places of the stack, and user past them
-abbrev stack : Mode → Mode → List Saved
-stack one two = record { mode = one } ∷ record { mode = two } ∷ replicate 6 noMode
+abbrev stack : Mode → Mode → List Bool
+stack one two = isPrivileged one ∷ isPrivileged two ∷ replicate 6 false
 
 abbrev stored : ℕ → ℕ → Mode → Program
 stored context mask mode = record { context = context; mask = mask; mode = mode }
@@ -59,7 +59,7 @@ abbrev table : Program → Program → List Program
 table one two = one ∷ two ∷ replicate 6 noProgram
 
 -- program 0 is current, with its own context and mask live
-abbrev saving : Mode → Bool → ℕ → List Saved → Machine
+abbrev saving : Mode → Bool → ℕ → List Bool → Machine
 saving mode pending depth saved =
     written figure (live 7 3 mode pending) depth saved 0 (table (stored 7 3 User) (stored 8 65535 User))
 

@@ -9,10 +9,10 @@ use lib.Bits.{bitAnd}
 use lib.Dec.{leb, ltb, eqb}
 use lib.ListN.{getD, set}
 use lib.Seq.{getD-set-other}
-use Rattle.rules.specs.Registers.{isPrivileged, localContext}
+use Rattle.rules.specs.Registers.{modeWhere, isPrivileged, localContext}
 use Rattle.rules.specs.Refusals.{Check, _⇒_, first, pick}
 use Rattle.rules.specs.declared.registers.Mode.{Mode}
-use Rattle.machine.specs.Machine.{isSound, memorySize, fieldOf, placeOf, noMode, noProgram}
+use Rattle.machine.specs.Machine.{isSound, memorySize, fieldOf, placeOf, noProgram}
 use Rattle.machine.specs.Calls.{callOf, checksOf, accessChecks, changeChecks, effectOf, entered, returned, switched, inPrivilegedMode, inUserMode, isRight, modeOf, numberOf, pageOf, after, violated}
 use Rattle.machine.specs.Listed.{isIn, listed, ownNumbers, soundNumbers}
 use Rattle.machine.specs.declared.record.Machine.{Machine}
@@ -233,7 +233,7 @@ effect-sound m Return h n =
     let s = sound-facts m h in
     let user = none-met (inUserMode m) 7 ((eqb (m .depth) 0 ⇒ 14) ∷ []) (accepted m Return n .1) refl .0 in
     moved-sound m (returned m) (refl, refl, refl) h (omega arith) (s .current-below)
-    (clear-calm (getD (m .saved) (m .depth - 1) noMode .mode) (in-privileged-mode m h user))
+    (clear-calm (modeWhere (getD (m .saved) (m .depth - 1) false)) (in-privileged-mode m h user))
 effect-sound m (Switch program) h n =
     let s = sound-facts m h in
     moved-sound m (switched m program) (refl, refl, refl) h (s .depth-most) (switch-named m program n) (s .calm)
@@ -370,24 +370,24 @@ programs-left m call i past = kept-by-call (λ end. getD (end .table) i noProgra
 
 -- a stack place past the depth, "save the stack place that an entry fills"
 pub stack-left : (m : Machine) (call : Call) (i : ℕ) → m .depth ≤ i → (call ≡ Enter → i ≡ m .depth → ⊥)
-    → getD (callOf m call .machine .saved) i noMode ≡ getD (m .saved) i noMode
+    → getD (callOf m call .machine .saved) i false ≡ getD (m .saved) i false
 unfolding effectOf entered returned switched checksOf
-stack-left m call i past filled = kept-by-call (λ end. getD (end .saved) i noMode) m call (effect call filled) refl
+stack-left m call i past filled = kept-by-call (λ end. getD (end .saved) i false) m call (effect call filled) refl
   where
     effect : (call : Call) → (call ≡ Enter → i ≡ m .depth → ⊥) → numberOf m call ≡ 0
-        → getD (effectOf m call .saved) i noMode ≡ getD (m .saved) i noMode
+        → getD (effectOf m call .saved) i false ≡ getD (m .saved) i false
     effect (Access right address) f n = refl
     effect (Grant right page s) f n = refl
     effect (Revoke right page s) f n = refl
     effect (SetMask bits) f n = refl
-    effect Enter f n = getD-set-other (m .saved) (m .depth) i _ noMode (f refl)
+    effect Enter f n = getD-set-other (m .saved) (m .depth) i _ false (f refl)
     effect Return f n =
         let c = none-met (inUserMode m) 7 ((eqb (m .depth) 0 ⇒ 14) ∷ []) (accepted m Return n .1) refl in
         let e = eqb-false (m .depth) 0 (none-met (eqb (m .depth) 0) 14 [] (c .1) refl .0) in
-        getD-set-other (m .saved) (m .depth - 1) i _ noMode (omega arith)
+        getD-set-other (m .saved) (m .depth - 1) i _ false (omega arith)
     effect (Switch program) f n =
         let d = switch-depth m program n in
-        getD-set-other (m .saved) 0 i _ noMode (omega arith)
+        getD-set-other (m .saved) 0 i _ false (omega arith)
     effect (StoreField right page bits) f n = refl
     effect (StoreContext bits) f n = refl
     effect (StoreMask bits) f n = refl

@@ -1,6 +1,7 @@
+mod Pages
 pub mod Sound
 pub mod Answers
-pub mod LentFields
+pub mod LentParts
 pub mod Allowed
 pub mod Entitled
 pub mod Laws

@@ -13,12 +13,10 @@ use Rattle.machine.specs.declared.record.Machine.{Machine}
 use Rattle.machine.specs.declared.record.Call.the-variants.{SetMask}
 
 -- where the machine's number is 0, the record is the one with the mask replaced
-pub mask-taken : (r : Registers) (bits : ℕ) (unsound : Bool)
-    → pick (eqb (pick unsound 1 (maskNumber r)) 0) (maskedOf r bits .registers) r
-    ≡ pick (eqb (pick unsound 1 (maskNumber r)) 0) (withMask bits r) r
+pub mask-taken : (r : Registers) (bits : ℕ)
+    → pick (eqb (maskNumber r) 0) (maskedOf r bits .registers) r ≡ pick (eqb (maskNumber r) 0) (withMask bits r) r
 unfolding maskedOf
-mask-taken r bits true = refl
-mask-taken r bits false = split (eqb (maskNumber r) 0)
+mask-taken r bits = split (eqb (maskNumber r) 0)
   where
     split : (b : Bool) → pick b (pick b (withMask bits r) r) r ≡ pick b (withMask bits r) r
     split true = refl

@@ -2,11 +2,13 @@
 -- what a switch stores, what a return leaves and that a violation sets the flag.
 use Prim.Native.Nat.{ℕ, _-_}
 use mathlib.Core.Path.{_≡_, ap, _∙_}
-use mathlib.Core.Bool.{true}
+use mathlib.Core.Bool.{true, false}
 use native.Mathlib.Omega.{arith}
 use lib.ListN.{length, getD, set}
 use lib.Seq.{getD-set-same, set-getD}
-use Rattle.machine.specs.Machine.{noMode, noProgram, withPrograms}
+use Rattle.rules.specs.Registers.{modeWhere}
+use Rattle.rules.proofs.Laws.{privileged-back}
+use Rattle.machine.specs.Machine.{noProgram, withPrograms}
 use Rattle.machine.specs.Calls.{callOf, effectOf, returned, switched, after}
 use Rattle.machine.specs.declared.record.Machine.{Machine}
 use Rattle.machine.specs.declared.record.Program.{Program}
@@ -31,12 +33,12 @@ stored m =
     record {
       context = m .registers .context;
       mask = m .registers .mask;
-      mode = getD (m .saved) 0 noMode .mode;
+      mode = modeWhere (getD (m .saved) 0 false);
     }
 
 pub switch-stores : (m : Machine) (program : ℕ) → length (m .table) ≡ 8 → callOf m (Switch program) .number ≡ 0
     → getD (callOf m (Switch program) .machine .table) (m .current) noProgram
-    ≡ record { context = m .registers .context; mask = m .registers .mask; mode = getD (m .saved) 0 noMode .mode }
+    ≡ record { context = m .registers .context; mask = m .registers .mask; mode = modeWhere (getD (m .saved) 0 false) }
 unfolding callOf effectOf switched
 switch-stores m program long n =
     let current = switch-within m program n .0 in
@@ -48,24 +50,24 @@ pub switch-to-current : (m : Machine) → length (m .table) ≡ 8 → callOf m (
     → callOf m (Switch (m .current)) .machine
     ≡ withPrograms (m .current)
     (set (m .table) (m .current)
-    (record { context = m .registers .context; mask = m .registers .mask; mode = getD (m .saved) 0 noMode .mode })) m
+    (record { context = m .registers .context; mask = m .registers .mask; mode = modeWhere (getD (m .saved) 0 false) })) m
 unfolding callOf effectOf switched
 switch-to-current m long n =
     let current = switch-within m (m .current) n .0 in
     done-effect m (Switch (m .current)) n
-    ∙ rw (getD-set-same (m .table) (m .current) (stored m) noProgram (omega arith), set-getD (m .saved) 0 noMode)
+    ∙ rw (getD-set-same (m .table) (m .current) (stored m) noProgram (omega arith), privileged-back (getD (m .saved) 0 false), set-getD (m .saved) 0 false)
 
 -- "Then the last saved mode is restored and its place becomes user."
 pub return-restores : (m : Machine) → length (m .saved) ≡ 8 → callOf m Return .number ≡ 0
-    → (callOf m Return .machine .registers .mode ≡ getD (m .saved) (m .depth - 1) noMode .mode)
-    × (getD (callOf m Return .machine .saved) (m .depth - 1) noMode ≡ noMode)
+    → (callOf m Return .machine .registers .mode ≡ modeWhere (getD (m .saved) (m .depth - 1) false))
+    × (getD (callOf m Return .machine .saved) (m .depth - 1) false ≡ false)
 unfolding callOf effectOf returned
 return-restores m long n =
     let top = return-within m n in
     let end = done-effect m Return n in (
       ap (λ (end : Machine). end .registers .mode) end,
-      ap (λ (end : Machine). getD (end .saved) (m .depth - 1) noMode) end
-          ∙ getD-set-same (m .saved) (m .depth - 1) noMode noMode (omega arith),
+      ap (λ (end : Machine). getD (end .saved) (m .depth - 1) false) end
+          ∙ getD-set-same (m .saved) (m .depth - 1) false false (omega arith),
     )
 
 -- "Only 9 changes anything: it sets the flag."

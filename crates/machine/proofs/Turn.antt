@@ -3,18 +3,18 @@
 -- the three calls compute.
 use Prim.Native.Nat.{ℕ, _+_, _-_, _<_}
 use mathlib.Core.Path.{_≡_, refl, subst}
-use mathlib.Core.Bool.{true, false}
+use mathlib.Core.Bool.{Bool, true, false}
 use mathlib.Core.List.{List, [], _∷_}
 use borrow.Author.Tests.{lt-ltb, ne-eqb}
 use lib.ListN.{length, getD, set}
 use lib.Seq.{getD-set-same, set-set}
 use native.Mathlib.Omega.{arith}
-use Rattle.rules.specs.Registers.{withPending}
+use Rattle.rules.specs.Registers.{isPrivileged, withPending}
+use Rattle.rules.proofs.Laws.{mode-back}
 use Rattle.rules.specs.declared.registers.Registers.{Registers}
-use Rattle.machine.specs.Machine.{isSound, noMode, noProgram, withStack, withRegisters, withPrograms}
+use Rattle.machine.specs.Machine.{isSound, noProgram, withStack, withRegisters, withPrograms}
 use Rattle.machine.specs.Calls.{callOf, numberOf, checksOf, effectOf, after, entered, switched, returned}
 use Rattle.machine.specs.declared.record.Machine.{Machine}
-use Rattle.machine.specs.declared.record.Saved.{Saved}
 use Rattle.machine.specs.declared.record.Program.{Program}
 use Rattle.machine.specs.declared.record.Call.the-variants.{Enter, Return, Switch}
 use Rattle.machine.proofs.Sound.{sound-facts, moved-sound}
@@ -26,7 +26,7 @@ pub record Interrupted (m : Machine) : Type 0 where
       callOf (entered m) Return
       ≡ record {
         number = 0;
-        machine = withStack (m .depth) (set (m .saved) (m .depth) noMode) (withRegisters (withPending false (m .registers)) m);
+        machine = withStack (m .depth) (set (m .saved) (m .depth) false) (withRegisters (withPending false (m .registers)) m);
       }
 
 pub interrupted : (m : Machine) → isSound m ≡ true → m .depth < 8 → length (m .saved) ≡ 8 → Interrupted m
@@ -34,12 +34,12 @@ unfolding callOf checksOf effectOf after entered returned
 interrupted m sound below long =
     let s = sound-facts m sound in
     let one = moved-sound m (entered m) (refl, refl, refl) sound (omega arith) (s .current-below) refl in
-    let place : Saved = record { mode = m .registers .mode } in
+    let place = isPrivileged (m .registers .mode) in
     let number : numberOf (entered m) Return ≡ 0 = rw (one, ne-eqb (m .depth + 1) 0 (λ (none : m .depth + 1 ≡ 0). omega arith)) in
     let top : m .depth + 1 - 1 ≡ m .depth = omega arith in
     record {
-      entry = rw (sound, ne-eqb (m .depth) 8 (λ (full : m .depth ≡ 8). omega arith));
-      return = rw (number, top, getD-set-same (m .saved) (m .depth) place noMode (omega arith), set-set (m .saved) (m .depth) place noMode);
+      entry = rw (sound, lt-ltb (m .depth) 8 below);
+      return = rw (number, top, getD-set-same (m .saved) (m .depth) place false (omega arith), mode-back (m .registers .mode), set-set (m .saved) (m .depth) place false);
     }
 
 -- the program table with the current program's entry as a switch would leave it
@@ -57,7 +57,7 @@ registersOf entry = record { context = entry .context; mask = entry .mask; mode 
 abbrev pub turned : Machine → ℕ → Machine
 turned m program =
     withPrograms program (home m)
-    (withStack 0 (set (m .saved) 0 noMode) (withRegisters (registersOf (getD (home m) program noProgram)) m))
+    (withStack 0 (set (m .saved) 0 false) (withRegisters (registersOf (getD (home m) program noProgram)) m))
 
 pub record Turned (m : Machine) (program : ℕ) : Type 0 where
   pub entry : callOf m Enter ≡ record { number = 0; machine = entered m }
@@ -65,7 +65,7 @@ pub record Turned (m : Machine) (program : ℕ) : Type 0 where
   pub return : callOf (switched (entered m) program) Return ≡ record { number = 0; machine = turned m program }
   pub sound : isSound (turned m program) ≡ true
 
-module _ (m : Machine) (top : Saved) (rest : List Saved) (program : ℕ) where
+module _ (m : Machine) (top : Bool) (rest : List Bool) (program : ℕ) where
   -- the machine before, with its depth and stack written out
   abbrev start : Machine
   start = withStack 0 (top ∷ rest) m
@@ -79,7 +79,7 @@ module _ (m : Machine) (top : Saved) (rest : List Saved) (program : ℕ) where
       record {
         entry = rw sound;
         switch = rw (one, lt-ltb (m .current) (m .programs) (s .current-below), lt-ltb program (m .programs) below);
-        return = rw two;
+        return = rw (two, mode-back (m .registers .mode), mode-back (getD (home start) program noProgram .mode));
         sound = moved-sound start (turned start program) (refl, refl, refl) sound (omega arith) below refl;
       }
 
@@ -87,7 +87,7 @@ pub turn-begins : (m : Machine) (program : ℕ) → isSound m ≡ true → m .de
     → Turned m program
 turn-begins m program sound depth long below = by-stack (m .saved) refl long
   where
-    by-stack : (saved : List Saved) → m .saved ≡ saved → 0 < length saved → Turned m program
+    by-stack : (saved : List Bool) → m .saved ≡ saved → 0 < length saved → Turned m program
     by-stack [] e h = absurd (omega arith)
     by-stack (top ∷ rest) e h =
         let same : start m top rest program ≡ m = rw (← e, ← depth) in

@@ -5,7 +5,7 @@ use mathlib.Core.List.{List, [], _∷_}
 use lib.Bits.{bitAnd}
 use lib.Dec.{leb, ltb, eqb}
 use lib.ListN.{getD, set}
-use Rattle.rules.specs.Registers.{isPrivileged, localContext, maskChecks, withContext, withMask, withMode, withPending}
+use Rattle.rules.specs.Registers.{isPrivileged, modeWhere, localContext, maskChecks, withContext, withMask, withMode, withPending}
 use Rattle.rules.specs.Domains.{isDomain, withBit, withoutBit, prevailing, isOutside, isNotLower}
 use Rattle.rules.specs.Refusals.{Check, _⇒_, first, pick}
 use Rattle.rules.specs.declared.registers.Mode.{Mode}
@@ -18,7 +18,7 @@ use Rattle.machine.specs.declared.record.Domain.{Domain}
 use Rattle.machine.specs.declared.record.Answered.{Answered}
 use Rattle.machine.specs.declared.record.Call.{Call}
 use Rattle.machine.specs.declared.record.Call.the-variants.{Access, Grant, Revoke, SetMask, Enter, Return, Switch, StoreField, StoreContext, StoreMask, StoreMode}
-use Rattle.machine.specs.Machine.{isSound, memorySize, placeOf, fieldOf, noMode, noProgram, withFields, withRegisters, withStack, withPrograms}
+use Rattle.machine.specs.Machine.{isSound, memorySize, placeOf, fieldOf, noProgram, withFields, withRegisters, withStack, withPrograms, withLent}
 
 -- "A right is 0 for READ, 1 for WRITE."
 abbrev pub isRight : ℕ → Bool
@@ -74,7 +74,7 @@ checksOf m (Revoke right page s) = changeChecks m right page s (prevailing (fiel
 -- "Mask command (16 bits). 1; 6 in privileged mode; 8."
 checksOf m (SetMask bits) = maskChecks (m .registers)
 -- "Interrupt entry. 1; 13 at depth 8."
-checksOf m Enter = (eqb (m .depth) 8 ⇒ 13) ∷ []
+checksOf m Enter = (not (ltb (m .depth) 8) ⇒ 13) ∷ []
 -- "Return. 1; 7 in user mode; 14 at depth 0."
 checksOf m Return = (inUserMode m ⇒ 7) ∷ (eqb (m .depth) 0 ⇒ 14) ∷ []
 -- "Switch (program). 1; 7; 10 if the current program has no entry in the table; 15 if the depth is not 1; 16 if the
@@ -93,9 +93,13 @@ checksOf m (StoreContext bits) = (inUserMode m ⇒ 7) ∷ []
 checksOf m (StoreMask bits) = (inUserMode m ⇒ 7) ∷ []
 checksOf m (StoreMode mode) = (not (leb mode 1) ⇒ 17) ∷ (inUserMode m ⇒ 7) ∷ []
 
--- "0 means done or allowed. The first condition that is met decides."; the first of all is "1 if the machine is not sound"
+-- "0 means done or allowed. The first condition that is met decides."
+abbrev pub ownNumberOf : Machine → Call → ℕ
+ownNumberOf m call = first (checksOf m call)
+
+-- the first condition of all is "1 if the machine is not sound"
 abbrev pub numberOf : Machine → Call → ℕ
-numberOf m call = first ((not (isSound m) ⇒ 1) ∷ checksOf m call)
+numberOf m call = pick (not (isSound m)) 1 (ownNumberOf m call)
 
 -- "The mode (0 user, 1 privileged)"
 abbrev pub modeOf : ℕ → Mode
@@ -108,26 +112,26 @@ withField m right page bits = withFields (set (m .fields) (placeOf right page) b
 -- "Then the mode is saved, the mode becomes privileged, the flag clears."
 unfoldable pub entered : Machine → Machine
 entered m =
-    withStack (m .depth + 1) (set (m .saved) (m .depth) (record { mode = m .registers .mode }))
+    withStack (m .depth + 1) (set (m .saved) (m .depth) (isPrivileged (m .registers .mode)))
     (withRegisters (withMode Privileged (withPending false (m .registers))) m)
 
 -- "Then the last saved mode is restored and its place becomes user."
 unfoldable pub returned : Machine → Machine
 returned m =
     let top = m .depth - 1 in
-    withStack top (set (m .saved) top noMode)
-    (withRegisters (withMode (getD (m .saved) top noMode .mode) (m .registers)) m)
+    withStack top (set (m .saved) top false)
+    (withRegisters (withMode (modeWhere (getD (m .saved) top false)) (m .registers)) m)
 
 -- "Then the live global context, mask and the saved mode go to the current program's entry, then the named program's
 -- three, read after that, replace them, and it is current." At depth 1 the saved mode is the first of the stack.
 unfoldable pub switched : Machine → ℕ → Machine
 switched m program =
     let r = m .registers in
-    let live : Program = record { context = r .context; mask = r .mask; mode = getD (m .saved) 0 noMode .mode } in
+    let live : Program = record { context = r .context; mask = r .mask; mode = modeWhere (getD (m .saved) 0 false) } in
     let table = set (m .table) (m .current) live in
     let named = getD table program noProgram in
     withPrograms program table
-    (withStack (m .depth) (set (m .saved) 0 (record { mode = named .mode }))
+    (withStack (m .depth) (set (m .saved) 0 (isPrivileged (named .mode)))
     (withRegisters (withContext (named .context) (withMask (named .mask) r)) m))
 
 -- the machine after a call that nothing refuses
@@ -155,14 +159,22 @@ violated m = withRegisters (withPending true (m .registers)) m
 unfoldable pub after : ℕ → Machine → Machine → Machine
 after number m effect = pick (eqb number 0) effect (pick (eqb number 9) (violated m) m)
 
--- "Every call takes the machine and gives it back with an answer."
+-- "Every call takes the machine and gives it back with an answer.": the answer of a call that a number answers
+abbrev pub answerBy : ℕ → Machine → Call → Answered
+answerBy number m call = record { number = number; machine = after number m (effectOf m call) }
+
+-- the call without the check for 1, by its own conditions alone, on any machine: what a caller asks for that knows its machine to be sound
+unfoldable pub uncheckedOf : Machine → Call → Answered
+uncheckedOf m call = answerBy (ownNumberOf m call) m call
+
+-- the call
 unfoldable pub callOf : Machine → Call → Answered
-callOf m call = record { number = numberOf m call; machine = after (numberOf m call) m (effectOf m call) }
+callOf m call = answerBy (numberOf m call) m call
 
 -- a grant or a revocation
 abbrev pub changeCall : Bool → ℕ → Page → Domain → Call
 changeCall granting right page s = pick granting (Grant right page s) (Revoke right page s)
 
--- what comes back of a call on lent fields, which hold the fields after it: the machine of the answer keeps its own
-abbrev pub keeping : List ℕ → Answered → Answered
-keeping own answer = record { number = answer .number; machine = withFields own (answer .machine) }
+-- what comes back of a call on a lent part, which holds what the call left there: the machine of the answer keeps its own fields and stack
+abbrev pub keeping : Machine → Answered → Answered
+keeping own answer = record { number = answer .number; machine = withLent (own .fields) (own .saved) (answer .machine) }

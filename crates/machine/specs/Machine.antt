@@ -8,13 +8,9 @@ use Rattle.rules.specs.Registers.{isPrivileged}
 use Rattle.rules.specs.declared.registers.Mode.the-variants.{User}
 use Rattle.rules.specs.declared.registers.Registers.{Registers}
 use Rattle.machine.specs.declared.record.Machine.{Machine}
-use Rattle.machine.specs.declared.record.Saved.{Saved}
 use Rattle.machine.specs.declared.record.Program.{Program}
 
--- a stack place and a program's entry in which every number is zero and the mode is user
-abbrev pub noMode : Saved
-noMode = record { mode = User }
-
+-- a program's entry in which every number is zero and the mode is user
 abbrev pub noProgram : Program
 noProgram = record { context = 0; mask = 0; mode = User }
 
@@ -27,7 +23,7 @@ zero =
       fields = replicate 256 0;
       registers = record { context = 0; mask = 0; mode = User; pending = false };
       depth = 0;
-      saved = replicate 8 noMode;
+      saved = replicate 8 false;
       programs = 0;
       current = 0;
       table = replicate 8 noProgram;
@@ -86,7 +82,8 @@ withRegisters registers m =
       table = m .table;
     }
 
-abbrev pub withStack : ℕ → List Saved → Machine → Machine
+-- "a stack of saved modes": at each place whether the mode saved there is privileged
+abbrev pub withStack : ℕ → List Bool → Machine → Machine
 withStack depth saved m =
     record {
       pages = m .pages;
@@ -113,3 +110,7 @@ withPrograms current table m =
       current = current;
       table = table;
     }
+
+-- the machine of a caller that keeps the fields and the stack of saved modes beside it and lends them to its calls
+abbrev pub withLent : List ℕ → List Bool → Machine → Machine
+withLent fields saved m = withFields fields (withStack (m .depth) saved m)

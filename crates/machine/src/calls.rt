@@ -1,21 +1,23 @@
-// The eleven calls (document 01, "Calls and what each refuses"). Each method has one shape: an array is indexed only in a
-// local or lent, the number comes first, what an accepted call changes is chosen by it, and the answer is made once at the
-// end. A call that looks at fields does so on lent ones, so that a loop over calls need not carry them in its machine; the
-// method by value is that call on the machine's own fields.
+// The eleven calls (document 01, "Calls and what each refuses"). Below each public method stands the call without the check for 1,
+// for a caller that knows its machine to be sound: by value (`.._unchecked`), or on a part of the machine that the caller keeps beside it
+// and lends (`.._lent`), so that a loop over calls need not carry fields and stack in its machine. The public method is that call behind one
+// `checked`. Each has one shape: an array is indexed only in a local or lent, the number comes first, and what an accepted call changes
+// is chosen by it.
 use crate::record::Answered;
 use crate::record::Domain;
 use crate::record::Machine;
 use crate::record::Page;
 use crate::record::Program;
-use crate::record::Saved;
-use crate::record::memory_size;
 use crate::record::page_of;
 use crate::record::place;
 use crate::record::read_field;
+use crate::record::read_program;
+use crate::record::read_saved;
 use crate::record::write_field;
+use crate::record::write_program;
+use crate::record::write_saved;
 use rules::decisions::access_number;
 use rules::decisions::change_number;
-use rules::decisions::checked;
 use rules::decisions::entry_number;
 use rules::decisions::field_number;
 use rules::decisions::mode_number;
@@ -28,14 +30,13 @@ use rules::domains::without_bit;
 use rules::registers::Mode;
 use rules::registers::replace_mask;
 ghost use mathlib.Core.Path.{_≡_};
-ghost use mathlib.Core.Bool.{not};
 ghost use mathlib.Core.List.{[], _∷_};
 ghost use Prim.Native.Nat.{_-_};
 ghost use Rattle.rules.specs.Domains.{prevailing, withBit, withoutBit};
 ghost use Rattle.rules.specs.Refusals.{pick, first, _⇒_};
-ghost use Rattle.machine.specs.Machine.{isSound, withFields};
+ghost use Rattle.machine.specs.Machine.{isSound, withFields, withStack};
 ghost use Rattle.machine.specs.declared.record.Call.{Call};
-ghost use Rattle.machine.specs.Calls.{callOf, keeping, changeCall, accessChecks, changeChecks, inUserMode, modeOf};
+ghost use Rattle.machine.specs.Calls.{callOf, uncheckedOf, keeping, changeCall, accessChecks, changeChecks, inUserMode, modeOf};
 
 // The new value where a call was accepted, else the old one.
 fn chosen(done: bool, new: u16, old: u16) -> u16
@@ -74,25 +75,62 @@ pub fn mode_of(number: u16) -> Mode
     Mode::Privileged
 }
 
+impl Answered {
+    // The answer with the stack that was lent.
+    fn with_saved(self, saved: [bool; 8]) -> Answered
+        ensures { λ r. ⌜ r ≡ record { number = self .number; machine = withStack (self .machine .depth) saved (self .machine) } ⌝ }
+    {
+        let mut machine = self.machine;
+        machine.saved = saved;
+        Answered {
+            number: self.number,
+            machine,
+        }
+    }
+}
+
 impl Machine {
+    // The answer of a call where the machine is sound; 1 and the machine as it was where it is not.
+    fn checked(self, answer: Answered) -> Answered
+        ensures { λ r. ⌜ r ≡ pick (isSound self) answer (record { number = 1; machine = self }) ⌝ }
+    {
+        if self.sound() {
+            return answer;
+        }
+        Answered {
+            number: 1,
+            machine: self,
+        }
+    }
+
+    // A number, and the machine with the fields that were lent.
+    fn answered_with(mut self, number: u8, fields: [u16; 256]) -> Answered
+        ensures { λ r. ⌜ r ≡ record { number = number; machine = withFields fields self } ⌝ }
+    {
+        self.fields = fields;
+        Answered {
+            number,
+            machine: self,
+        }
+    }
+
     // The number of an access, from the field of that right to the address's page.
     fn access_at(self, right: u8, address: u32, field: u16) -> u8
-        ensures { λ r. ⌜ r ≡ pick (not (isSound self)) 1 (first (accessChecks self right address field)) ⌝ }
+        ensures { λ r. ⌜ r ≡ first (accessChecks self right address field) ⌝ }
     {
         let registers = self.registers;
-        let number = access_number(
+        access_number(
             !(right <= 1),
-            memory_size(self.pages, self.exponent) <= address,
+            (self.pages as u32) <= page_of(address, self.exponent),
             registers.privileged(),
             registers.pending,
             field & registers.local() == 0,
-        );
-        checked(!self.sound(), number)
+        )
     }
 
     // The access on lent fields. The machine that comes back keeps its own.
     pub fn access_lent(mut self, fields: &[u16], right: u8, address: u32) -> Answered
-        ensures { λ r. ⌜ r ≡ keeping (self .fields) (callOf (withFields (now (fields .entry)) self) (Call.Access right address)) ⌝ }
+        ensures { λ r. ⌜ r ≡ keeping self (uncheckedOf (withFields (now (fields .entry)) self) (Call.Access right address)) ⌝ }
     {
         let registers = self.registers;
         let at = place(right, page_of(address, self.exponent));
@@ -110,16 +148,17 @@ impl Machine {
         ensures { λ r. ⌜ r ≡ callOf self (Call.Access right address) ⌝ }
     {
         let fields = self.fields;
-        self.access_lent(&fields, right, address)
+        let answer = self.access_lent(&fields, right, address);
+        self.checked(answer)
     }
 
     // The number of a grant or a revocation, from the field of that right to that page.
     fn change_number(self, right: u8, page: Page, domain: Domain, field: u16) -> u8
-        ensures { λ r. ⌜ r ≡ pick (not (isSound self)) 1 (first (changeChecks self right page domain (prevailing field))) ⌝ }
+        ensures { λ r. ⌜ r ≡ first (changeChecks self right page domain (prevailing field)) ⌝ }
     {
         let registers = self.registers;
         let prevails = prevailing_of(field);
-        let number = change_number(
+        change_number(
             !(right <= 1),
             !(page.0 < self.pages),
             !(domain.0 < Machine::DOMAINS),
@@ -127,8 +166,7 @@ impl Machine {
             registers.pending,
             prevails.outside(registers.local()),
             prevails.not_lower(domain.0),
-        );
-        checked(!self.sound(), number)
+        )
     }
 
     // The grant or the revocation on lent fields, which it alters there: its number.
@@ -140,8 +178,8 @@ impl Machine {
         page: Page,
         domain: Domain,
     ) -> u8
-        ensures { λ r. ⌜ r ≡ callOf (withFields (now (fields .entry)) self) (changeCall granting right page domain) .number ⌝ }
-        ensures { λ _. ⌜ now (fields .exit) ≡ callOf (withFields (now (fields .entry)) self) (changeCall granting right page domain) .machine .fields ⌝ }
+        ensures { λ r. ⌜ r ≡ uncheckedOf (withFields (now (fields .entry)) self) (changeCall granting right page domain) .number ⌝ }
+        ensures { λ _. ⌜ now (fields .exit) ≡ uncheckedOf (withFields (now (fields .entry)) self) (changeCall granting right page domain) .machine .fields ⌝ }
     {
         let at = place(right, page.0 as u32);
         let field = read_field(fields, at);
@@ -151,36 +189,28 @@ impl Machine {
         number
     }
 
-    pub fn grant(mut self, right: u8, page: Page, domain: Domain) -> Answered
+    pub fn grant(self, right: u8, page: Page, domain: Domain) -> Answered
         ensures { λ r. ⌜ r ≡ callOf self (Call.Grant right page domain) ⌝ }
     {
         let mut fields = self.fields;
         let number = self.change_lent(&mut fields, true, right, page, domain);
-        self.fields = fields;
-        Answered {
-            number,
-            machine: self,
-        }
+        self.checked(self.answered_with(number, fields))
     }
 
-    pub fn revoke(mut self, right: u8, page: Page, domain: Domain) -> Answered
+    pub fn revoke(self, right: u8, page: Page, domain: Domain) -> Answered
         ensures { λ r. ⌜ r ≡ callOf self (Call.Revoke right page domain) ⌝ }
     {
         let mut fields = self.fields;
         let number = self.change_lent(&mut fields, false, right, page, domain);
-        self.fields = fields;
-        Answered {
-            number,
-            machine: self,
-        }
+        self.checked(self.answered_with(number, fields))
     }
 
-    pub fn set_mask(mut self, mask: u16) -> Answered
-        ensures { λ r. ⌜ r ≡ callOf self (Call.SetMask mask) ⌝ }
+    pub fn set_mask_unchecked(mut self, mask: u16) -> Answered
+        ensures { λ r. ⌜ r ≡ uncheckedOf self (Call.SetMask mask) ⌝ }
     {
         let registers = self.registers;
         let done = replace_mask(registers, mask);
-        let number = checked(!self.sound(), done.number);
+        let number = done.number;
         let others = done.registers;
         let after = registers.or_where(number == 0, others);
         self.registers = after;
@@ -190,23 +220,60 @@ impl Machine {
         }
     }
 
-    // Interrupt entry.
-    pub fn enter(mut self) -> Answered
-        ensures { λ r. ⌜ r ≡ callOf self Call.Enter ⌝ }
+    pub fn set_mask(self, mask: u16) -> Answered
+        ensures { λ r. ⌜ r ≡ callOf self (Call.SetMask mask) ⌝ }
+    {
+        self.checked(self.set_mask_unchecked(mask))
+    }
+
+    // Interrupt entry on a lent stack, which it alters there.
+    pub fn enter_lent(mut self, saved: &mut [bool]) -> Answered
+        ensures { λ r. ⌜ r ≡ keeping self (uncheckedOf (withStack (self .depth) (now (saved .entry)) self) Call.Enter) ⌝ }
+        ensures { λ _. ⌜ now (saved .exit) ≡ uncheckedOf (withStack (self .depth) (now (saved .entry)) self) Call.Enter .machine .saved ⌝ }
     {
         let mut registers = self.registers;
         let mut depth = self.depth;
-        let mut saved = self.saved;
-        let number = checked(!self.sound(), entry_number(depth == Machine::DEPTH));
-        if number == 0 && depth < 8 {
+        let number = entry_number(!(depth < Machine::DEPTH));
+        if depth < Machine::DEPTH {
             let mode = registers.mode;
-            saved[depth as usize] = Saved { mode };
+            write_saved(saved, depth as usize, mode);
             registers = registers.with_pending(false).with_mode(Mode::Privileged);
             depth += 1;
         }
         self.registers = registers;
         self.depth = depth;
-        self.saved = saved;
+        Answered {
+            number,
+            machine: self,
+        }
+    }
+
+    // Interrupt entry.
+    pub fn enter(self) -> Answered
+        ensures { λ r. ⌜ r ≡ callOf self Call.Enter ⌝ }
+    {
+        let mut saved = self.saved;
+        let answer = self.enter_lent(&mut saved);
+        self.checked(answer.with_saved(saved))
+    }
+
+    // Return from an interrupt on a lent stack, which it alters there.
+    pub fn leave_lent(mut self, saved: &mut [bool]) -> Answered
+        ensures { λ r. ⌜ r ≡ keeping self (uncheckedOf (withStack (self .depth) (now (saved .entry)) self) Call.Return) ⌝ }
+        ensures { λ _. ⌜ now (saved .exit) ≡ uncheckedOf (withStack (self .depth) (now (saved .entry)) self) Call.Return .machine .saved ⌝ }
+    {
+        let mut registers = self.registers;
+        let mut depth = self.depth;
+        let number = return_number(!registers.privileged(), depth == 0);
+        if number == 0 {
+            let top = below(depth);
+            let mode = read_saved(saved, top);
+            write_saved(saved, top, Mode::User);
+            registers = registers.with_mode(mode);
+            depth = top as u8;
+        }
+        self.registers = registers;
+        self.depth = depth;
         Answered {
             number,
             machine: self,
@@ -214,67 +281,44 @@ impl Machine {
     }
 
     // Return from an interrupt.
-    pub fn leave(mut self) -> Answered
+    pub fn leave(self) -> Answered
         ensures { λ r. ⌜ r ≡ callOf self Call.Return ⌝ }
     {
-        let mut registers = self.registers;
-        let mut depth = self.depth;
         let mut saved = self.saved;
-        let top = below(depth);
-        let number = checked(
-            !self.sound(),
-            return_number(!registers.privileged(), depth == 0),
-        );
-        if number == 0 && top < 8 {
-            let last = saved[top];
-            let mode = last.mode;
-            saved[top] = Saved { mode: Mode::User };
-            registers = registers.with_mode(mode);
-            depth = top as u8;
-        }
-        self.registers = registers;
-        self.depth = depth;
-        self.saved = saved;
-        Answered {
-            number,
-            machine: self,
-        }
+        let answer = self.leave_lent(&mut saved);
+        self.checked(answer.with_saved(saved))
     }
 
-    // Switch to a program.
-    pub fn switch_to(mut self, program: u16) -> Answered
-        ensures { λ r. ⌜ r ≡ callOf self (Call.Switch program) ⌝ }
+    // Switch to a program on a lent stack, which it alters there.
+    pub fn switch_lent(mut self, saved: &mut [bool], program: u16) -> Answered
+        ensures { λ r. ⌜ r ≡ keeping self (uncheckedOf (withStack (self .depth) (now (saved .entry)) self) (Call.Switch program)) ⌝ }
+        ensures { λ _. ⌜ now (saved .exit) ≡ uncheckedOf (withStack (self .depth) (now (saved .entry)) self) (Call.Switch program) .machine .saved ⌝ }
     {
         let mut registers = self.registers;
-        let mut saved = self.saved;
         let mut current = self.current;
         let mut table = self.table;
         let programs = self.programs;
-        let number = checked(
-            !self.sound(),
-            switch_number(
-                !registers.privileged(),
-                !(current < programs),
-                !(self.depth == 1),
-                !(program < programs),
-            ),
+        let number = switch_number(
+            !registers.privileged(),
+            !(current < programs),
+            !(self.depth == 1),
+            !(program < programs),
         );
-        if number == 0 && current < 8 && program < 8 {
-            let interrupted = saved[0];
-            let mode = interrupted.mode;
-            table[current as usize] = Program {
+        if number == 0 {
+            let live = Program {
                 context: registers.context,
                 mask: registers.mask,
-                mode,
+                mode: read_saved(saved, 0),
             };
-            let named = table[program as usize];
-            let next = named.mode;
-            saved[0] = Saved { mode: next };
+            let stored = write_program(table, current, live);
+            let named = read_program(stored, program);
+            let mode = named.mode;
+            write_saved(saved, 0, mode);
             registers = registers.with_mask(named.mask).with_context(named.context);
+            table = stored;
             current = program;
         }
         self.registers = registers;
-        self.saved = saved;
         self.current = current;
         self.table = table;
         Answered {
@@ -283,19 +327,25 @@ impl Machine {
         }
     }
 
+    // Switch to a program.
+    pub fn switch_to(self, program: u16) -> Answered
+        ensures { λ r. ⌜ r ≡ callOf self (Call.Switch program) ⌝ }
+    {
+        let mut saved = self.saved;
+        let answer = self.switch_lent(&mut saved, program);
+        self.checked(answer.with_saved(saved))
+    }
+
     // The kernel's store of a field on lent fields, which it alters there: its number.
     pub fn store_lent(self, fields: &mut [u16], right: u8, page: Page, bits: u16) -> u8
-        ensures { λ r. ⌜ r ≡ callOf (withFields (now (fields .entry)) self) (Call.StoreField right page bits) .number ⌝ }
-        ensures { λ _. ⌜ now (fields .exit) ≡ callOf (withFields (now (fields .entry)) self) (Call.StoreField right page bits) .machine .fields ⌝ }
+        ensures { λ r. ⌜ r ≡ uncheckedOf (withFields (now (fields .entry)) self) (Call.StoreField right page bits) .number ⌝ }
+        ensures { λ _. ⌜ now (fields .exit) ≡ uncheckedOf (withFields (now (fields .entry)) self) (Call.StoreField right page bits) .machine .fields ⌝ }
     {
         let registers = self.registers;
-        let number = checked(
-            !self.sound(),
-            field_number(
-                !(right <= 1),
-                !(page.0 < self.pages),
-                !registers.privileged(),
-            ),
+        let number = field_number(
+            !(right <= 1),
+            !(page.0 < self.pages),
+            !registers.privileged(),
         );
         let at = place(right, page.0 as u32);
         let field = read_field(fields, at);
@@ -304,29 +354,25 @@ impl Machine {
     }
 
     // The kernel's store of a field.
-    pub fn store_field(mut self, right: u8, page: Page, bits: u16) -> Answered
+    pub fn store_field(self, right: u8, page: Page, bits: u16) -> Answered
         ensures { λ r. ⌜ r ≡ callOf self (Call.StoreField right page bits) ⌝ }
     {
         let mut fields = self.fields;
         let number = self.store_lent(&mut fields, right, page, bits);
-        self.fields = fields;
-        Answered {
-            number,
-            machine: self,
-        }
+        self.checked(self.answered_with(number, fields))
     }
 
     // The number of the kernel's store of the global context or the mask.
     fn register_store_number(self) -> u8
-        ensures { λ r. ⌜ r ≡ pick (not (isSound self)) 1 (first ((inUserMode self ⇒ 7) ∷ [])) ⌝ }
+        ensures { λ r. ⌜ r ≡ first ((inUserMode self ⇒ 7) ∷ []) ⌝ }
     {
         let registers = self.registers;
-        checked(!self.sound(), register_number(!registers.privileged()))
+        register_number(!registers.privileged())
     }
 
     // The kernel's store of the global context.
-    pub fn store_context(mut self, bits: u16) -> Answered
-        ensures { λ r. ⌜ r ≡ callOf self (Call.StoreContext bits) ⌝ }
+    pub fn store_context_unchecked(mut self, bits: u16) -> Answered
+        ensures { λ r. ⌜ r ≡ uncheckedOf self (Call.StoreContext bits) ⌝ }
     {
         let registers = self.registers;
         let number = self.register_store_number();
@@ -338,9 +384,15 @@ impl Machine {
         }
     }
 
+    pub fn store_context(self, bits: u16) -> Answered
+        ensures { λ r. ⌜ r ≡ callOf self (Call.StoreContext bits) ⌝ }
+    {
+        self.checked(self.store_context_unchecked(bits))
+    }
+
     // The kernel's store of the mask.
-    pub fn store_mask(mut self, bits: u16) -> Answered
-        ensures { λ r. ⌜ r ≡ callOf self (Call.StoreMask bits) ⌝ }
+    pub fn store_mask_unchecked(mut self, bits: u16) -> Answered
+        ensures { λ r. ⌜ r ≡ uncheckedOf self (Call.StoreMask bits) ⌝ }
     {
         let registers = self.registers;
         let number = self.register_store_number();
@@ -352,20 +404,29 @@ impl Machine {
         }
     }
 
+    pub fn store_mask(self, bits: u16) -> Answered
+        ensures { λ r. ⌜ r ≡ callOf self (Call.StoreMask bits) ⌝ }
+    {
+        self.checked(self.store_mask_unchecked(bits))
+    }
+
     // The kernel's store of the mode.
-    pub fn store_mode(mut self, mode: u16) -> Answered
-        ensures { λ r. ⌜ r ≡ callOf self (Call.StoreMode mode) ⌝ }
+    pub fn store_mode_unchecked(mut self, mode: u16) -> Answered
+        ensures { λ r. ⌜ r ≡ uncheckedOf self (Call.StoreMode mode) ⌝ }
     {
         let registers = self.registers;
-        let number = checked(
-            !self.sound(),
-            mode_number(!(mode <= 1), !registers.privileged()),
-        );
+        let number = mode_number(!(mode <= 1), !registers.privileged());
         let after = registers.or_where(number == 0, registers.with_mode(mode_of(mode)));
         self.registers = after;
         Answered {
             number,
             machine: self,
         }
+    }
+
+    pub fn store_mode(self, mode: u16) -> Answered
+        ensures { λ r. ⌜ r ≡ callOf self (Call.StoreMode mode) ⌝ }
+    {
+        self.checked(self.store_mode_unchecked(mode))
     }
 }

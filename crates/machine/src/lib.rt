@@ -10,4 +10,3 @@ pub use record::Domain;
 pub use record::Machine;
 pub use record::Page;
 pub use record::Program;
-pub use record::Saved;

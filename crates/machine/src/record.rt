@@ -2,16 +2,13 @@
 use rules::registers::Mode;
 use rules::registers::Registers;
 ghost use mathlib.Core.Path.{_≡_};
+ghost use mathlib.Core.Bool.{false};
 ghost use Prim.Native.Nat.{_*_, _^_, _/_};
 ghost use lib.Dec.{leb};
 ghost use lib.ListN.{getD, set};
 ghost use Rattle.rules.specs.Refusals.{pick};
-ghost use Rattle.machine.specs.Machine.{zero, isSound, placeOf};
-
-// A saved mode: one place of the stack.
-pub struct Saved {
-    pub mode: Mode,
-}
+ghost use Rattle.rules.specs.Registers.{isPrivileged, modeWhere};
+ghost use Rattle.machine.specs.Machine.{zero, isSound, placeOf, noProgram};
 
 // What is stored for a program: global context, mask and mode.
 pub struct Program {
@@ -26,14 +23,14 @@ pub struct Page(pub u16);
 // A domain number.
 pub struct Domain(pub u16);
 
-// The field of a right r to page p stands at 2p + r.
+// The field of a right r to page p stands at 2p + r. A saved mode is kept as whether it is privileged.
 pub struct Machine {
     pub pages: u16,
     pub exponent: u8,
     pub fields: [u16; 256],
     pub registers: Registers,
     pub depth: u8,
-    pub saved: [Saved; 8],
+    pub saved: [bool; 8],
     pub programs: u16,
     pub current: u16,
     pub table: [Program; 8],
@@ -84,7 +81,7 @@ impl Machine {
                 pending: false,
             },
             depth: 0,
-            saved: [Saved { mode: Mode::User }; 8],
+            saved: [false; 8],
             programs: 0,
             current: 0,
             table: [Program {
@@ -122,11 +119,11 @@ pub fn memory_size(pages: u16, exponent: u8) -> u32
     0
 }
 
-// The page of an address; 0 where the exponent is out of range.
+// The page of an address, of any exponent: past 31 places nothing is left of an address.
 pub fn page_of(address: u32, exponent: u8) -> u32
-    ensures { λ r. ⌜ r ≡ pick (leb exponent 12) (address / 2 ^ exponent) 0 ⌝ }
+    ensures { λ r. ⌜ r ≡ address / 2 ^ exponent ⌝ }
 {
-    if exponent <= 12 {
+    if exponent < 32 {
         return address >> exponent;
     }
     0
@@ -156,4 +153,47 @@ pub fn write_field(fields: &mut [u16], at: usize, bits: u16)
     if at < fields.len() {
         fields[at] = bits;
     }
+}
+
+// The mode saved at a place of a lent stack; user past its end.
+pub fn read_saved(saved: &[bool], at: usize) -> Mode
+    ensures { λ r. ⌜ r ≡ modeWhere (getD (now (saved .entry)) at false) ⌝ }
+{
+    if at < saved.len() {
+        return Mode::where_privileged(saved[at]);
+    }
+    Mode::User
+}
+
+// Another mode at a place of a lent stack; past its end nothing is stored.
+pub fn write_saved(saved: &mut [bool], at: usize, mode: Mode)
+    ensures { λ _. ⌜ now (saved .exit) ≡ set (now (saved .entry)) at (isPrivileged mode) ⌝ }
+{
+    if at < saved.len() {
+        saved[at] = mode.privileged();
+    }
+}
+
+// The entry of a program; all zero past the table's end.
+pub fn read_program(table: [Program; 8], at: u16) -> Program
+    ensures { λ r. ⌜ r ≡ getD table at noProgram ⌝ }
+{
+    if at < 8 {
+        return table[at as usize];
+    }
+    Program {
+        context: 0,
+        mask: 0,
+        mode: Mode::User,
+    }
+}
+
+// The table with another entry of a program; past its end nothing is stored.
+pub fn write_program(mut table: [Program; 8], at: u16, entry: Program) -> [Program; 8]
+    ensures { λ r. ⌜ r ≡ set table at entry ⌝ }
+{
+    if at < 8 {
+        table[at as usize] = entry;
+    }
+    table
 }

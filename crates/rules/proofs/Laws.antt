@@ -2,13 +2,14 @@
 -- the definition and the code were changed together.
 use Prim.Native.Nat.{ℕ, _≤_, _<_, _^_}
 use mathlib.Core.Path.{_≡_, refl}
-use mathlib.Core.Bool.{true, false}
+use mathlib.Core.Bool.{Bool, true, false}
 use mathlib.Core.List.{[], _∷_, map}
 use native.Mathlib.Nat.{le-refl}
 use borrow.Author.Tests.{lt-ltb, le-ltb, le-leb, ne-eqb}
 use lib.Count.{trailingZeros}
-use Rattle.rules.specs.Registers.{localContext, maskedOf}
+use Rattle.rules.specs.Registers.{isPrivileged, modeWhere, localContext, maskedOf}
 use Rattle.rules.specs.Domains.{domainBit, prevailing, isOutside, isNotLower, withBit, withoutBit}
+use Rattle.rules.specs.declared.registers.Mode.{Mode}
 use Rattle.rules.specs.declared.registers.Mode.the-variants.{User, Privileged}
 use Rattle.rules.specs.declared.registers.Registers.{Registers}
 use Rattle.rules.specs.declared.domains.Prevailing.the-variants.{Absent, At}
@@ -55,6 +56,15 @@ mask-replaced r bits n = rw n
 pub mask-refused : (r : Registers) (bits : ℕ) → (maskedOf r bits .number ≡ 0 → ⊥) → maskedOf r bits .registers ≡ r
 unfolding maskedOf
 mask-refused r bits n = rw (ne-eqb (maskedOf r bits .number) 0 n)
+
+-- a mode is known by whether it is privileged
+pub mode-back : (mode : Mode) → modeWhere (isPrivileged mode) ≡ mode
+mode-back User = refl
+mode-back Privileged = refl
+
+pub privileged-back : (privileged : Bool) → isPrivileged (modeWhere privileged) ≡ privileged
+privileged-back true = refl
+privileged-back false = refl
 
 -- "6 in privileged mode; 8", computed for each mode and flag, also for a record that no sound machine holds
 pub mask-number-cases :

@@ -15,6 +15,10 @@ abbrev pub isPrivileged : Mode → Bool
 isPrivileged User = false
 isPrivileged Privileged = true
 
+-- a saved mode, of which the stack keeps whether it is privileged
+abbrev pub modeWhere : Bool → Mode
+modeWhere privileged = pick privileged Privileged User
+
 -- "The local context is the bitwise AND of global context and mask (001, 2.1)."
 abbrev pub localContext : Registers → ℕ
 localContext r = bitAnd (r .context) (r .mask)

@@ -1,18 +1,8 @@
 // The number of each call from its conditions, in document 01's order: the first condition that is met decides.
-// The test for 1, which stands before them all, is `checked`.
+// The test for 1, which stands before them all, is the machine's.
 ghost use mathlib.Core.Path.{_≡_};
 ghost use mathlib.Core.List.{[], _∷_};
 ghost use Rattle.rules.specs.Refusals.{first, pick, _⇒_};
-
-// The number of a call on a machine: 1 where the machine is not sound, else the number that its conditions give.
-pub fn checked(unsound: bool, number: u8) -> u8
-    ensures { λ r. ⌜ r ≡ pick unsound 1 number ⌝ }
-{
-    if unsound {
-        return 1;
-    }
-    number
-}
 
 pub fn access_number(
     badright: bool,

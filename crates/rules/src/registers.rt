@@ -2,7 +2,7 @@
 use crate::decisions::mask_number;
 ghost use mathlib.Core.Path.{_≡_};
 ghost use Rattle.rules.specs.Refusals.{pick};
-ghost use Rattle.rules.specs.Registers.{isPrivileged, localContext, withContext, withMask, withMode, withPending, maskedOf};
+ghost use Rattle.rules.specs.Registers.{isPrivileged, modeWhere, localContext, withContext, withMask, withMode, withPending, maskedOf};
 
 // The live mode, and a saved or stored one.
 pub enum Mode {
@@ -31,6 +31,17 @@ impl Mode {
         match self {
             Mode::User => false,
             Mode::Privileged => true,
+        }
+    }
+
+    // The mode from whether it is privileged.
+    pub fn where_privileged(privileged: bool) -> Mode
+        ensures { λ r. ⌜ r ≡ modeWhere privileged ⌝ }
+    {
+        if privileged {
+            Mode::Privileged
+        } else {
+            Mode::User
         }
     }
 }

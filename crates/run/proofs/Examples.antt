@@ -11,7 +11,7 @@ use Rattle.image.specs.Sample.{sampleBytes}
 use Rattle.machine.specs.Machine.{isSound}
 use Rattle.machine.specs.Calls.{asPage, asDomain, callOf, checksOf, accessChecks, changeChecks, effectOf, entered, returned, switched, after}
 use Rattle.machine.specs.declared.record.Call.the-variants.{Access, Grant, Revoke, SetMask, Enter, Return, Switch, StoreField, StoreContext, StoreMask, StoreMode}
-use Rattle.run.specs.Records.{callOfKind, callsOf, stepOf}
+use Rattle.run.specs.Records.{callOfKind, callsOf, stepBy}
 use Rattle.run.specs.Run.{answersFrom, answersOf, callAnswers, sent}
 use Rattle.run.specs.declared.records.Decoded.the-variants.{Known, Unknown}
 
@@ -58,12 +58,12 @@ sampleInput =
 
 -- "Whole output, one item a line: `load 0`, `1 0`, `2 9`, `3 8`, `4 0`, `5 0`, `6 0`, `7 0`, `8 9`."
 pub sample-answered : answersOf sampleInput ≡ 0 ∷ 0 ∷ 9 ∷ 8 ∷ 0 ∷ 0 ∷ 0 ∷ 0 ∷ 9 ∷ []
-unfolding sampleInput sampleBytes callAnswers answersFrom callsOf callOfKind stepOf loadOf loadChecks lengthTests kindTests shapeEntryTests shapeTests bodyTests describe machineOf callOf checksOf accessChecks changeChecks effectOf entered returned switched after isSound prevailing domainBit trailingZeros
+unfolding sampleInput sampleBytes callAnswers answersFrom callsOf callOfKind stepBy loadOf loadChecks lengthTests kindTests shapeEntryTests shapeTests bodyTests describe machineOf callOf checksOf accessChecks changeChecks effectOf entered returned switched after isSound prevailing domainBit trailingZeros
 sample-answered = refl
 
 -- "a remainder is passed over"
 pub remainder-answered : answersOf (sampleInput ++ 0x01 ∷ []) ≡ 0 ∷ 0 ∷ 9 ∷ 8 ∷ 0 ∷ 0 ∷ 0 ∷ 0 ∷ 9 ∷ []
-unfolding sampleInput sampleBytes callAnswers answersFrom callsOf callOfKind stepOf loadOf loadChecks lengthTests kindTests shapeEntryTests shapeTests bodyTests describe machineOf callOf checksOf accessChecks changeChecks effectOf entered returned switched after isSound prevailing domainBit trailingZeros
+unfolding sampleInput sampleBytes callAnswers answersFrom callsOf callOfKind stepBy loadOf loadChecks lengthTests kindTests shapeEntryTests shapeTests bodyTests describe machineOf callOf checksOf accessChecks changeChecks effectOf entered returned switched after isSound prevailing domainBit trailingZeros
 remainder-answered = refl
 
 -- "A record is read as one of eleven calls or answered 18.", and then leaves the machine alone: the access after it is allowed. "that many image
@@ -77,7 +77,7 @@ pub ends-answered :
     ∷ []
     ∷ [])
     ≡ (0 ∷ 18 ∷ 0 ∷ []) ∷ (0 ∷ []) ∷ (24 ∷ []) ∷ (20 ∷ []) ∷ (20 ∷ []) ∷ []
-unfolding sampleBytes callAnswers answersFrom callsOf callOfKind stepOf loadOf loadChecks lengthTests kindTests shapeEntryTests shapeTests bodyTests describe machineOf callOf checksOf accessChecks changeChecks effectOf entered returned switched after isSound prevailing domainBit trailingZeros
+unfolding sampleBytes callAnswers answersFrom callsOf callOfKind stepBy loadOf loadChecks lengthTests kindTests shapeEntryTests shapeTests bodyTests describe machineOf callOf checksOf accessChecks changeChecks effectOf entered returned switched after isSound prevailing domainBit trailingZeros
 ends-answered = refl
 
 -- "If the buffer is too short for all of them, .. the count is 0": the sample's nine answers in buffers about as long

@@ -1,6 +1,6 @@
 -- What the calls of a run are answered: a loaded machine is sound and stays so, so each answer is 18 or one of the numbers of a sound machine.
 use Prim.Native.Nat.{ℕ, zero, suc}
-use mathlib.Core.Path.{_≡_, refl, _∙_}
+use mathlib.Core.Path.{_≡_, refl}
 use mathlib.Core.Bool.{Bool, true, false, _||_}
 use mathlib.Core.List.{List, [], _∷_}
 use borrow.Author.Tests.{eqb-true}
@@ -11,26 +11,22 @@ use Rattle.machine.specs.Machine.{isSound}
 use Rattle.machine.specs.Calls.{callOf}
 use Rattle.machine.specs.Listed.{isIn, soundNumbers}
 use Rattle.machine.specs.declared.record.Machine.{Machine}
-use Rattle.machine.proofs.Laws.{sound-number, soundness-kept}
+use Rattle.machine.proofs.Laws.{sound-number}
 use Rattle.image.proofs.Loaded.{loaded}
-use Rattle.run.specs.Records.{callsOf, stepOf}
+use Rattle.run.specs.Records.{callsOf, stepBy, stepOf}
 use Rattle.run.specs.Run.{imageOf, callBytes, answersFrom, callAnswers, loadedOf}
+use Rattle.run.proofs.Steps.{step-sound}
 use Rattle.run.specs.declared.records.Decoded.{Decoded}
 use Rattle.run.specs.declared.records.Decoded.the-variants.{Known, Unknown}
 
 step-given : (m : Machine) (call : Decoded) → isSound m ≡ true → isIn (stepOf m call .number) (18 ∷ soundNumbers) ≡ true
-unfolding stepOf
+unfolding stepBy
 step-given m (Known call) s = either (eqb (callOf m call .number) 18) (isIn (callOf m call .number) soundNumbers) (sound-number m call s)
   where
     either : (a b : Bool) → b ≡ true → a || b ≡ true
     either true b h = refl
     either false b h = h
 step-given m Unknown s = refl
-
-step-sound : (m : Machine) (call : Decoded) → isSound m ≡ true → isSound (stepOf m call .machine) ≡ true
-unfolding stepOf
-step-sound m (Known call) s = soundness-kept m call ∙ s
-step-sound m Unknown s = s
 
 from-given : (m : Machine) (calls : List Decoded) (i : ℕ) → isSound m ≡ true → isIn (getD (answersFrom m calls) i 0) (18 ∷ soundNumbers) ≡ true
 unfolding answersFrom

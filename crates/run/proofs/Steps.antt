@@ -11,23 +11,27 @@ use lib.Dec.{eqb}
 use lib.ListN.{length, getD, set, drop, length-drop, List·getD-eq-default}
 use lib.Seq.{getD-drop, drop-drop, sets}
 use Rattle.image.specs.Bytes.{wordOf}
-use Rattle.machine.specs.Machine.{withFields}
-use Rattle.machine.specs.Calls.{callOf, keeping}
+use Rattle.machine.specs.Machine.{isSound, withLent}
+use Rattle.machine.specs.Calls.{keeping}
 use Rattle.machine.specs.declared.record.Machine.{Machine}
 use Rattle.machine.specs.declared.record.Answered.{Answered}
 use Rattle.machine.specs.declared.record.Call.{Call}
-use Rattle.run.specs.Records.{kinds, callOfKind, callsOf, stepOf}
+use Rattle.machine.proofs.Answers.{sound-unchecked}
+use Rattle.machine.proofs.LentParts.{Lent}
+use Rattle.machine.proofs.Laws.{soundness-kept}
+use Rattle.run.specs.Records.{kinds, callOfKind, callsOf, stepBy, stepOf, uncheckedStepOf}
 use Rattle.run.specs.Run.{answersFrom}
 use Rattle.run.specs.declared.records.Decoded.{Decoded}
 use Rattle.run.specs.declared.records.Decoded.the-variants.{Known, Unknown}
 
 -- a step on a record that was decoded to a call is that call
-pub made : (lent : List ℕ) (m : Machine) (call : Call) {after : List ℕ} {decoded : Decoded} {known : Call} {r : Answered}
-    → decoded ≡ Known known → known ≡ call
-    → (r ≡ keeping (m .fields) (callOf (withFields lent m) call)) × (after ≡ callOf (withFields lent m) call .machine .fields)
-    → (r ≡ keeping (m .fields) (stepOf (withFields lent m) decoded)) × (after ≡ stepOf (withFields lent m) decoded .machine .fields)
-unfolding stepOf
-made lent m call decodes is answer = rw (decodes, is) answer
+pub made : (fields : List ℕ) (saved : List Bool) (m : Machine) (call : Call) {r : Answered} {fields′ : List ℕ} {saved′ : List Bool} {decoded : Decoded}
+    → Lent fields saved m call r fields′ saved′ → decoded ≡ Known call
+    → (r ≡ keeping m (uncheckedStepOf (withLent fields saved m) decoded))
+    × ((fields′ ≡ uncheckedStepOf (withLent fields saved m) decoded .machine .fields)
+    × (saved′ ≡ uncheckedStepOf (withLent fields saved m) decoded .machine .saved))
+unfolding stepBy
+made fields saved m call answer decodes = rw decodes answer
 
 pub above : {n k : ℕ} → n ≤ k → (k ≡ n → ⊥) → n + 1 ≤ k
 above least other = omega arith
@@ -90,10 +94,22 @@ unfolding answersFrom
 count-answers m [] = refl
 count-answers m (call ∷ rest) = let more = count-answers (stepOf m call .machine) rest in omega arith
 
--- what a step gives back and the lent fields after it, put together, are the step on the whole machine
-pub whole : {own fields : List ℕ} {r s : Answered} → r ≡ keeping own s → fields ≡ s .machine .fields
-    → _≡_ {A = Answered} (record { number = r .number; machine = withFields fields (r .machine) }) s
-whole e f = rw (e, f)
+-- a step hands back a sound machine where it was handed one
+pub step-sound : (m : Machine) (call : Decoded) → isSound m ≡ true → isSound (stepOf m call .machine) ≡ true
+unfolding stepBy
+step-sound m (Known call) s = soundness-kept m call ∙ s
+step-sound m Unknown s = s
+
+-- on a sound machine a step is one without the check for 1
+pub sound-step : (m : Machine) (call : Decoded) → isSound m ≡ true → stepOf m call ≡ uncheckedStepOf m call
+unfolding stepBy
+sound-step m (Known call) s = sound-unchecked m call s
+sound-step m Unknown s = refl
+
+-- what a step gives back and the lent parts after it, put together, are the step on the whole machine
+pub whole : (own : Machine) {fields : List ℕ} {saved : List Bool} {r s : Answered} → r ≡ keeping own s → fields ≡ s .machine .fields
+    → saved ≡ s .machine .saved → _≡_ {A = Answered} (record { number = r .number; machine = withLent fields saved (r .machine) }) s
+whole own e f g = rw (e, f, g)
 
 -- a turn of the loop over the calls: the answer of the record at a place, stored, and the answers of the calls past it, stored behind it,
 -- are the answers of the calls from that place on

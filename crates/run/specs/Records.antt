@@ -3,9 +3,10 @@ use Prim.Native.Nat.{ℕ, _+_, _*_}
 use mathlib.Core.List.{List, [], _∷_}
 use lib.ListN.{getD}
 use Rattle.image.specs.Bytes.{wordOf}
-use Rattle.machine.specs.Calls.{asPage, asDomain, callOf}
+use Rattle.machine.specs.Calls.{asPage, asDomain, callOf, uncheckedOf}
 use Rattle.machine.specs.declared.record.Machine.{Machine}
 use Rattle.machine.specs.declared.record.Answered.{Answered}
+use Rattle.machine.specs.declared.record.Call.{Call}
 use Rattle.machine.specs.declared.record.Call.the-variants.{Access, Grant, Revoke, SetMask, Enter, Return, Switch, StoreField, StoreContext, StoreMask, StoreMode}
 use Rattle.run.specs.declared.records.Decoded.{Decoded}
 use Rattle.run.specs.declared.records.Decoded.the-variants.{Known, Unknown}
@@ -44,6 +45,13 @@ callsOf (k ∷ r ∷ a ∷ a′ ∷ b ∷ []) = []
 callsOf (k ∷ r ∷ a ∷ a′ ∷ b ∷ b′ ∷ rest) = callOfKind k r (wordOf a a′) (wordOf b b′) ∷ callsOf rest
 
 -- "A record is read as one of eleven calls or answered 18."
-unfoldable pub stepOf : Machine → Decoded → Answered
-stepOf m (Known call) = callOf m call
-stepOf m Unknown = record { number = 18; machine = m }
+unfoldable pub stepBy : (Machine → Call → Answered) → Machine → Decoded → Answered
+stepBy made m (Known call) = made m call
+stepBy made m Unknown = record { number = 18; machine = m }
+
+abbrev pub stepOf : Machine → Decoded → Answered
+stepOf = stepBy callOf
+
+-- the step without the check for 1, which the machine of a run never meets
+abbrev pub uncheckedStepOf : Machine → Decoded → Answered
+uncheckedStepOf = stepBy uncheckedOf

@@ -12,7 +12,9 @@ ghost use Prim.Native.Nat.{_+_, _-_, _/_, _≤_, min};
 ghost use lib.ListN.{length, drop};
 ghost use lib.Seq.{sets};
 ghost use lib.Dec.{eqb};
+ghost use mathlib.Core.Bool.{true};
 ghost use Rattle.rules.specs.Refusals.{pick};
+ghost use Rattle.machine.specs.Machine.{isSound};
 ghost use Rattle.image.specs.Bytes.{wordAt};
 ghost use Rattle.run.specs.Records.{callsOf};
 ghost use Rattle.run.specs.Run.{answersFrom, loadedOf, sent};
@@ -42,11 +44,13 @@ fn load_input(input: &[u8], end: usize) -> Answered
 // The answers of the calls from a place of the input on, stored from the second place of the buffer on; the caller has seen that
 // there is room for them.
 fn answer_calls(start: Machine, input: &[u8], from: usize, answers: &mut [u8])
+    requires { ⌜ isSound start ≡ true ⌝ }
     requires { ⌜ from ≤ length (now input) ⌝ }
     requires { ⌜ 1 + (length (now input) - from) / 6 ≤ length (now answers) ⌝ }
     ensures { λ _. ⌜ now (answers .exit) ≡ sets (now (answers .entry)) 1 (answersFrom start (callsOf (drop from (now (input .entry))))) ⌝ }
 {
     let mut fields = start.fields;
+    let mut saved = start.saved;
     let mut answered = Answered {
         number: 0,
         machine: start,
@@ -54,7 +58,7 @@ fn answer_calls(start: Machine, input: &[u8], from: usize, answers: &mut [u8])
     let mut at = from;
     let mut i: usize = 1;
     while 6 <= input.len() - at {
-        answered = step(answered.machine, &mut fields, decode(input, at));
+        answered = step(answered.machine, &mut fields, &mut saved, decode(input, at));
         answers[i] = answered.number;
         i += 1;
         at += 6;

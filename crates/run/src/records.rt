@@ -9,9 +9,9 @@ ghost use mathlib.Core.Path.{_≡_};
 ghost use Prim.Native.Nat.{_+_, _*_, _≤_};
 ghost use lib.ListN.{length, getD};
 ghost use Rattle.image.specs.Bytes.{wordOf};
-ghost use Rattle.machine.specs.Machine.{withFields};
+ghost use Rattle.machine.specs.Machine.{withLent};
 ghost use Rattle.machine.specs.Calls.{keeping};
-ghost use Rattle.run.specs.Records.{callOfKind, stepOf};
+ghost use Rattle.run.specs.Records.{callOfKind, uncheckedStepOf};
 
 // A record read: one of the eleven calls, or none of them.
 pub enum Decoded {
@@ -59,11 +59,12 @@ pub fn decode(bytes: &[u8], at: usize) -> Decoded
     )
 }
 
-// One step: the call on the machine with the lent fields, or 18 for a record that is none. The fields are lent, since a machine that
-// goes through a loop with them inside is copied at every turn; the machine that comes back keeps its own.
-pub fn step(machine: Machine, fields: &mut [u16], decoded: Decoded) -> Answered
-    ensures { λ r. ⌜ r ≡ keeping (machine .fields) (stepOf (withFields (now (fields .entry)) machine) decoded) ⌝ }
-    ensures { λ _. ⌜ now (fields .exit) ≡ stepOf (withFields (now (fields .entry)) machine) decoded .machine .fields ⌝ }
+// One step: the call on the machine with the lent fields and the lent stack, without the check for 1, or 18 for a record that is none. They
+// are lent, since a machine that goes through a loop with them inside is copied at every turn; the machine that comes back keeps its own.
+pub fn step(machine: Machine, fields: &mut [u16], saved: &mut [bool], decoded: Decoded) -> Answered
+    ensures { λ r. ⌜ r ≡ keeping machine (uncheckedStepOf (withLent (now (fields .entry)) (now (saved .entry)) machine) decoded) ⌝ }
+    ensures { λ _. ⌜ now (fields .exit) ≡ uncheckedStepOf (withLent (now (fields .entry)) (now (saved .entry)) machine) decoded .machine .fields ⌝ }
+    ensures { λ _. ⌜ now (saved .exit) ≡ uncheckedStepOf (withLent (now (fields .entry)) (now (saved .entry)) machine) decoded .machine .saved ⌝ }
 {
     let Decoded::Known(call) = decoded else {
         return Answered {
@@ -84,29 +85,29 @@ pub fn step(machine: Machine, fields: &mut [u16], decoded: Decoded) -> Answered
             return Answered { number, machine };
         }
         Call::SetMask(mask) => {
-            return machine.set_mask(mask);
+            return machine.set_mask_unchecked(mask);
         }
         Call::Enter => {
-            return machine.enter();
+            return machine.enter_lent(saved);
         }
         Call::Return => {
-            return machine.leave();
+            return machine.leave_lent(saved);
         }
         Call::Switch(program) => {
-            return machine.switch_to(program);
+            return machine.switch_lent(saved, program);
         }
         Call::StoreField(right, page, bits) => {
             let number = machine.store_lent(fields, right, page, bits);
             return Answered { number, machine };
         }
         Call::StoreContext(bits) => {
-            return machine.store_context(bits);
+            return machine.store_context_unchecked(bits);
         }
         Call::StoreMask(bits) => {
-            return machine.store_mask(bits);
+            return machine.store_mask_unchecked(bits);
         }
         Call::StoreMode(mode) => {
-            return machine.store_mode(mode);
+            return machine.store_mode_unchecked(mode);
         }
     }
 }

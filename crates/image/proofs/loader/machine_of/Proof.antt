@@ -9,30 +9,6 @@ use borrow.Author.Needs.{needs}
 use Rattle.image.proofs.loader.machine_of.Statement.{statement}
 use Rattle.image.proofs.loader.machine_of.Tie as tie
 
-table-of-requires : tie.Need-table-of-requires
-table-of-requires c κs = search needs
-
-array-copy-out-live : tie.Need-array-copy-out-live
-array-copy-out-live c = search needs
-
-byte-at-requires : tie.Need-byte-at-requires
-byte-at-requires c κs = search needs
-
-cast-t10 : tie.Need-cast-t10
-cast-t10 c = search needs
-
-byte-at-requires-2 : tie.Need-byte-at-requires-2
-byte-at-requires-2 c κs = search needs
-
-fields-of-requires : tie.Need-fields-of-requires
-fields-of-requires c κs = search needs
-
-byte-at-requires-3 : tie.Need-byte-at-requires-3
-byte-at-requires-3 c κs = search needs
-
-cast-t18 : tie.Need-cast-t18
-cast-t18 c = search needs
-
 returns : tie.Need-returns
 unfolding machineOf describe
 returns c =
@@ -50,13 +26,5 @@ returns c =
 pub machine-of-spec : {M : Type 1} → statement M
 machine-of-spec =
     tie.close
-    (tie.spec
-    table-of-requires
-    array-copy-out-live
-    byte-at-requires
-    cast-t10
-    byte-at-requires-2
-    fields-of-requires
-    byte-at-requires-3
-    cast-t18
-    returns)
+    (tie.spec (λ c κs. search needs) (λ c. search needs) (λ c κs. search needs) (λ c. search needs) (λ c κs. search needs) (λ c κs. search needs)
+    (λ c κs. search needs) (λ c. search needs) returns)

@@ -3,7 +3,8 @@ use mathlib.Core.Path.{_≡_, sym, _∙_}
 use native.Mathlib.Omega.{arith}
 use borrow.Author.Tests.{eq-eqb}
 use lib.ListN.{length, length-set}
-use Rattle.run.specs.Run.{answersOf}
+use Rattle.run.specs.Run.{answersOf, imageOf}
+use Rattle.image.proofs.Loaded.{loaded}
 use Rattle.run.proofs.Sent.{answers-count, all-sends, long-sends, short-sends, stored-all, stored-one}
 use borrow.Author.Needs.{needs}
 use Rattle.run.proofs.bench.bench_run.Statement.{statement}
@@ -44,7 +45,10 @@ answer-calls-requires : tie.Need-answer-calls-requires
 answer-calls-requires c κs =
     let counting = c .before .before .before in
     let n = rw (eq-eqb (counting .before .load-input .result .number) 0 (c .before .if3 .taken)) at (counting .answer-count .ensures) in
-    (omega (arith, counting .before .before .calls-start .ensures), simp length-set (omega (arith, n)))
+    let input = counting .before .before .before .before .before .before .args .input .now in
+    let load = counting .before .load-input .ensures in
+    let sound = loaded (imageOf input) (rw (← load) (c .before .if3 .taken)) .sound in
+    (rw load sound, (omega (arith, counting .before .before .calls-start .ensures), simp length-set (omega (arith, n))))
 
 same-length : tie.Need-same-length
 same-length c = c .before .before .answer-calls .kept .1 .1 .1 .0 ∙ simp length-set

@@ -1,6 +1,6 @@
 -- `Machine::change_lent` meets its contract: it changes the field at the place that it read, by the bit operation of the call.
 use mathlib.Core.Path.{ap}
-use Rattle.machine.specs.Machine.{isSound, withFields}
+use Rattle.machine.specs.Machine.{withFields}
 use Rattle.machine.specs.Calls.{changeChecks}
 use Rattle.machine.proofs.Answers.{change-answered}
 use Rattle.machine.specs.declared.record.Answered.{Answered}
@@ -33,7 +33,7 @@ same-length : tie.Need-same-length
 same-length c = search needs
 
 returns : tie.Need-returns
-unfolding isSound changeChecks
+unfolding changeChecks
 returns c =
     let a = c .before .before .before .before .before .before .before .before .before .before .before .before .args in
     let answer =

@@ -22,24 +22,16 @@ not-lower-requires c κs = search needs
 change-number-requires : tie.Need-change-number-requires
 change-number-requires c κs = search needs
 
-sound-requires : tie.Need-sound-requires
-sound-requires c κs = search needs
-
-checked-requires : tie.Need-checked-requires
-checked-requires c κs = search needs
-
 returns : tie.Need-returns
 unfolding changeChecks
 returns c =
     rw (
-      c .checked .ensures,
-      c .before .before .change-number .ensures,
-      c .before .before .before .not-lower .ensures,
-      c .before .before .before .before .outside .ensures,
-      c .before .before .before .before .before .local .ensures,
-      c .before .before .before .before .before .before .privileged .ensures,
-      c .before .before .before .before .before .before .before .before .before .before .prevailing-of .ensures,
-      c .before .sound .ensures,
+      c .change-number .ensures,
+      c .before .not-lower .ensures,
+      c .before .before .outside .ensures,
+      c .before .before .before .local .ensures,
+      c .before .before .before .before .privileged .ensures,
+      c .before .before .before .before .before .before .before .before .prevailing-of .ensures,
     )
 
 pub change-number-spec : {M : Type 1} → statement M
@@ -52,6 +44,4 @@ change-number-spec =
     outside-requires
     not-lower-requires
     change-number-requires
-    sound-requires
-    checked-requires
     returns)

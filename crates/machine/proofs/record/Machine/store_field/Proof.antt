@@ -1,19 +1,16 @@
--- `Machine::store_field` meets its contract: the store on its own fields, then stored back.
-use Rattle.machine.proofs.LentFields.{store-alone}
+-- `Machine::store_field` meets its contract: the call on the machine's own fields, behind the check for 1.
+use mathlib.Core.Path.{_∙_}
+use Rattle.machine.proofs.Answers.{checked-call}
+use Rattle.machine.proofs.LentParts.{store-alone}
 use borrow.Author.Needs.{needs}
 use Rattle.machine.proofs.record.Machine.store_field.Statement.{statement}
 use Rattle.machine.proofs.record.Machine.store_field.Tie as tie
 
-slice-aggregate-store-lent : tie.Need-slice-aggregate-store-lent
-slice-aggregate-store-lent c = search needs
-
-store-lent-requires : tie.Need-store-lent-requires
-store-lent-requires c κs = search needs
-
 returns : tie.Need-returns
 returns c =
-    let a = c .before .before .before .before .args in
-    rw (c .before .store-lent .ensures .0, c .before .store-lent .ensures .1) (store-alone (a .self) (a .right) (a .page) (a .bits))
+    let made : tie.After-store-lent = (search) in
+    checked-call _ _ (c .checked .ensures)
+    (c .before .answered-with .ensures ∙ rw (made .store-lent .ensures .0, made .store-lent .ensures .1) (store-alone _ _ _ _))
 
 pub store-field-spec : {M : Type 1} → statement M
-store-field-spec = tie.close (tie.spec slice-aggregate-store-lent store-lent-requires returns)
+store-field-spec = tie.close (tie.spec (λ c. search needs) (λ c κs. search needs) (λ c κs. search needs) (λ c κs. search needs) returns)

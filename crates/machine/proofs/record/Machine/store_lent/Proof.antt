@@ -1,6 +1,6 @@
 -- `Machine::store_lent` meets its contract: it changes the field at the place that it read.
 use mathlib.Core.Path.{refl, ap}
-use Rattle.machine.specs.Machine.{isSound, withFields}
+use Rattle.machine.specs.Machine.{withFields}
 use Rattle.machine.specs.Calls.{checksOf, effectOf}
 use Rattle.machine.specs.declared.record.Answered.{Answered}
 use Rattle.machine.specs.declared.record.Call.the-variants.{StoreField}
@@ -9,17 +9,11 @@ use borrow.Author.Needs.{needs}
 use Rattle.machine.proofs.record.Machine.store_lent.Statement.{statement}
 use Rattle.machine.proofs.record.Machine.store_lent.Tie as tie
 
-sound-requires : tie.Need-sound-requires
-sound-requires c κs = search needs
-
 privileged-requires : tie.Need-privileged-requires
 privileged-requires c κs = search needs
 
 field-number-requires : tie.Need-field-number-requires
 field-number-requires c κs = search needs
-
-checked-requires : tie.Need-checked-requires
-checked-requires c κs = search needs
 
 cast-place : tie.Need-cast-place
 cast-place c = search needs
@@ -40,20 +34,15 @@ same-length : tie.Need-same-length
 same-length c = search needs
 
 returns : tie.Need-returns
-unfolding checksOf effectOf isSound
+unfolding checksOf effectOf
 returns c =
     let numbered = c .before .before .before .before .before .before .before .before .before in
-    let a = numbered .before .before .before .before .before .before .before .before .args in
+    let a = numbered .before .before .before .before .before .before .args in
     let place = c .before .before .before .before .before .before .before .place in
     let answer =
-    store-answered (withFields (a .fields .now) (a .self)) (StoreField (a .right) (a .page) (a .bits)) {n = numbered .checked .result} (place .result)
+    store-answered (withFields (a .fields .now) (a .self)) (StoreField (a .right) (a .page) (a .bits)) {n = numbered .field-number .result} (place .result)
     (a .bits) (c .before .before .before .before .before .read-field .ensures)
-    (rw (
-      numbered .checked .ensures,
-      numbered .before .field-number .ensures,
-      numbered .before .before .privileged .ensures,
-      numbered .before .before .before .before .before .sound .ensures,
-    ))
+    (rw (numbered .field-number .ensures, numbered .before .privileged .ensures))
     refl (rw (← place .ensures)) (c .before .before .before .chosen .ensures) (c .before .before .write-field .ensures) in
     (ap (λ (r : Answered). r .number) answer, ap (λ (r : Answered). r .machine .fields) answer)
 
@@ -61,10 +50,8 @@ pub store-lent-spec : {M : Type 1} → statement M
 store-lent-spec =
     tie.close
     (tie.spec
-    sound-requires
     privileged-requires
     field-number-requires
-    checked-requires
     cast-place
     place-requires
     read-field-requires

@@ -1,55 +1,13 @@
--- `Machine::store_mode` meets its contract: it changes the registers alone.
-use Rattle.machine.proofs.Answers.{registers-answered}
-use Rattle.machine.specs.Calls.{checksOf, effectOf}
-use Rattle.machine.specs.declared.record.Call.the-variants.{StoreMode}
-use mathlib.Core.Path.{refl}
+-- `Machine::store_mode` meets its contract: the call without the check for 1, behind it.
+use Rattle.machine.proofs.Answers.{checked-call}
 use borrow.Author.Needs.{needs}
 use Rattle.machine.proofs.record.Machine.store_mode.Statement.{statement}
 use Rattle.machine.proofs.record.Machine.store_mode.Tie as tie
 
-sound-requires : tie.Need-sound-requires
-sound-requires c κs = search needs
-
-privileged-requires : tie.Need-privileged-requires
-privileged-requires c κs = search needs
-
-mode-number-requires : tie.Need-mode-number-requires
-mode-number-requires c κs = search needs
-
-checked-requires : tie.Need-checked-requires
-checked-requires c κs = search needs
-
-mode-of-requires : tie.Need-mode-of-requires
-mode-of-requires c κs = search needs
-
-with-mode-requires : tie.Need-with-mode-requires
-with-mode-requires c κs = search needs
-
-or-where-requires : tie.Need-or-where-requires
-or-where-requires c κs = search needs
-
 returns : tie.Need-returns
-unfolding checksOf effectOf
-returns c =
-    let a = c .before .before .before .before .before .before .before .before .args in
-    registers-answered (a .self) (StoreMode (a .mode))
-    (rw (
-      c .before .before .before .checked .ensures,
-      c .before .before .before .before .mode-number .ensures,
-      c .before .before .before .before .before .privileged .ensures,
-      c .before .before .before .before .before .before .sound .ensures,
-    ))
-    refl refl (rw (c .or-where .ensures, c .before .with-mode .ensures, c .before .before .mode-of .ensures))
+returns c = checked-call _ _ (c .checked .ensures) (c .before .store-mode-unchecked .ensures)
 
 pub store-mode-spec : {M : Type 1} → statement M
 store-mode-spec =
     tie.close
-    (tie.spec
-    sound-requires
-    privileged-requires
-    mode-number-requires
-    checked-requires
-    mode-of-requires
-    with-mode-requires
-    or-where-requires
-    returns)
+    (tie.spec (λ c κs. search needs) (λ c κs. search needs) returns)
