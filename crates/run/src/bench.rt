@@ -41,12 +41,13 @@ fn load_input(input: &[u8], end: usize) -> Answered
     load(&input[..0])
 }
 
-// The answers of the calls from a place of the input on, stored from the second place of the buffer on; the caller has seen that
-// there is room for them.
-fn answer_calls(start: Machine, input: &[u8], from: usize, answers: &mut [u8])
+// The answers of the calls from a place of the input on, stored from the second place of the buffer on; the caller has counted them with
+// the load's, and has seen that there is room for them. The machine is sound at the start, so that no call needs to ask for it.
+fn answer_calls(start: Machine, input: &[u8], from: usize, count: usize, answers: &mut [u8])
     requires { ⌜ isSound start ≡ true ⌝ }
     requires { ⌜ from ≤ length (now input) ⌝ }
-    requires { ⌜ 1 + (length (now input) - from) / 6 ≤ length (now answers) ⌝ }
+    requires { ⌜ count ≡ 1 + (length (now input) - from) / 6 ⌝ }
+    requires { ⌜ count ≤ length (now answers) ⌝ }
     ensures { λ _. ⌜ now (answers .exit) ≡ sets (now (answers .entry)) 1 (answersFrom start (callsOf (drop from (now (input .entry))))) ⌝ }
 {
     let mut fields = start.fields;
@@ -57,7 +58,7 @@ fn answer_calls(start: Machine, input: &[u8], from: usize, answers: &mut [u8])
     };
     let mut at = from;
     let mut i: usize = 1;
-    while 6 <= input.len() - at {
+    while i < count {
         answered = step(answered.machine, &mut fields, &mut saved, decode(input, at));
         answers[i] = answered.number;
         i += 1;
@@ -94,7 +95,7 @@ pub extern "C" fn bench_run(input: &[u8], answers: &mut [u8]) -> usize
     }
     answers[0] = number;
     if number == 0 {
-        answer_calls(loaded.machine, input, end, answers);
+        answer_calls(loaded.machine, input, end, count, answers);
     }
     count
 }

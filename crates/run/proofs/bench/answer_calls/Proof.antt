@@ -1,6 +1,6 @@
 -- `run::bench::answer_calls` meets its contract. The loop's invariant: the machine with the loop's fields and stack is sound, the answers of
--- the calls that are left on it, stored from here on, give the buffer that is promised, and there is room for them. The measure is what is
--- left of the input.
+-- the calls that are left on it, stored from here on, give the buffer that is promised, and there is room for as many as were counted. The measure is
+-- how many of them are left.
 use Prim.Native.Nat.{_+_, _-_, _/_, _≤_}
 use mathlib.Core.Path.{_≡_, refl, ap, sym, _∙_}
 use mathlib.Core.Bool.{true}
@@ -18,11 +18,11 @@ use Rattle.run.proofs.bench.answer_calls.Statement.{statement}
 use Rattle.run.proofs.bench.answer_calls.Tie as tie
 
 abbrev Inv-loop : tie.InvT-loop
-Inv-loop input from answers₀ fields₀ saved₀ answered₀ at₀ i₀ answers fields saved answered at i =
+Inv-loop input from count answers₀ fields₀ saved₀ answered₀ at₀ i₀ answers fields saved answered at i =
     (at ≤ length input)
-    × (i ≤ at + 1)
+    × (i + (length input - at) / 6 ≡ count)
     × (length answers ≡ length answers₀)
-    × (i + (length input - at) / 6 ≤ length answers)
+    × (count ≤ length answers)
     × (sets answers i (answersFrom (withLent fields saved (answered .machine)) (callsOf (drop at input)))
     ≡ sets answers₀ 1 (answersFrom (withLent fields₀ saved₀ (answered₀ .machine)) (callsOf (drop from input))))
     × (length fields ≡ 256)
@@ -30,7 +30,7 @@ Inv-loop input from answers₀ fields₀ saved₀ answered₀ at₀ i₀ answers
     × (isSound (withLent fields saved (answered .machine)) ≡ true)
 
 abbrev μ-loop : tie.MeasureT-loop
-μ-loop input from answers₀ fields₀ saved₀ answered₀ at₀ i₀ answers fields saved answered at i = length input - at
+μ-loop input from count answers₀ fields₀ saved₀ answered₀ at₀ i₀ answers fields saved answered at i = count - i
 
 loop-holds : tie.Need-loop-holds Inv-loop μ-loop
 loop-holds c = (omega arith, omega arith, refl, omega arith, refl, search needs, search needs, search needs)
@@ -86,5 +86,5 @@ returns c =
 pub answer-calls-spec : {M : Type 1} → statement M
 answer-calls-spec =
     tie.close
-    (tie.spec Inv-loop μ-loop loop-holds (λ c. search needs) slice-aggregate-step slice-aggregate-step-2 (λ c κs. search needs) step-requires
+    (tie.spec Inv-loop μ-loop loop-holds slice-aggregate-step slice-aggregate-step-2 (λ c κs. search needs) step-requires
     (λ c. search needs) (λ c. search needs) (λ c. search needs) (λ c. search needs) loop-again same-length returns)

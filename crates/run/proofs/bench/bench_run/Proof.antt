@@ -48,10 +48,10 @@ answer-calls-requires c κs =
     let input = counting .before .before .before .before .before .before .args .input .now in
     let load = counting .before .load-input .ensures in
     let sound = loaded (imageOf input) (rw (← load) (c .before .if3 .taken)) .sound in
-    (rw load sound, (omega (arith, counting .before .before .calls-start .ensures), simp length-set (omega (arith, n))))
+    (rw load sound, (omega (arith, counting .before .before .calls-start .ensures), (n, simp length-set (omega arith))))
 
 same-length : tie.Need-same-length
-same-length c = c .before .before .answer-calls .kept .1 .1 .1 .0 ∙ simp length-set
+same-length c = c .before .before .answer-calls .kept .1 .1 .1 .1 .0 ∙ simp length-set
 
 returns-3 : tie.Need-returns-3
 returns-3 c =
