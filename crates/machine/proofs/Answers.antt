@@ -86,14 +86,16 @@ module _ (m : Machine) (call : Call) where
       split true = refl
       split false = refl
 
-  -- the public methods
-  pub checked-call : {r answer : Answered} → r ≡ pick (isSound m) answer (record { number = 1; machine = m }) → answer ≡ uncheckedOf m call
-      → r ≡ callOf m call
-  checked-call tested answers = rw (tested, answers) (sym call-checked)
-
   -- on a sound machine the two are one
   pub sound-unchecked : isSound m ≡ true → callOf m call ≡ uncheckedOf m call
   sound-unchecked sound = rw (call-checked, sound)
+
+  -- the two ends of a public method, from the test for soundness
+  pub unsound-answers : {sound : Bool} → sound ≡ isSound m → not sound ≡ true → record { number = 1; machine = m } ≡ callOf m call
+  unsound-answers {sound} tested not-sound = rw (call-checked, ← tested, not-true sound not-sound)
+
+  pub sound-answers : {sound : Bool} {r : Answered} → sound ≡ isSound m → not sound ≡ false → r ≡ uncheckedOf m call → r ≡ callOf m call
+  sound-answers {sound} tested is-sound answer = answer ∙ sym (sound-unchecked (sym tested ∙ not-false sound is-sound))
 
   -- a call that never answers 9 and leaves its effect where it is done and the machine as it was where it is refused
   pub answered : {n : ℕ} {end : Machine} → n ≡ ownNumberOf m call → avoids 9 (checksOf m call) ≡ true

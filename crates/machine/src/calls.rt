@@ -1,8 +1,9 @@
-// The eleven calls (document 01, "Calls and what each refuses"). Below each public method stands the call without the check for 1,
-// for a caller that knows its machine to be sound: by value (`.._unchecked`), or on a part of the machine that the caller keeps beside it
-// and lends (`.._lent`), so that a loop over calls need not carry fields and stack in its machine. The public method is that call behind one
-// `checked`. Each has one shape: an array is indexed only in a local or lent, the number comes first, and what an accepted call changes
-// is chosen by it.
+// The eleven calls (document 01, "Calls and what each refuses"). Beside each public method stands the call without the check for 1, for a
+// caller that knows its machine to be sound: by value (`.._unchecked`), or on a part of the machine that the caller keeps beside it and
+// lends (`.._lent`), so that a loop over calls need not carry fields and stack in its machine. The public method is that call behind one test
+// for soundness, written out in each: a helper that hands the machine on costs copies of it (docs/PERFORMANCE.md). In the calls themselves
+// an array is indexed only in a local or lent, the number comes first, what an accepted call changes is chosen by it, and the answer is made
+// once at the end.
 use crate::record::Answered;
 use crate::record::Domain;
 use crate::record::Machine;
@@ -90,19 +91,6 @@ impl Answered {
 }
 
 impl Machine {
-    // The answer of a call where the machine is sound; 1 and the machine as it was where it is not.
-    fn checked(self, answer: Answered) -> Answered
-        ensures { λ r. ⌜ r ≡ pick (isSound self) answer (record { number = 1; machine = self }) ⌝ }
-    {
-        if self.sound() {
-            return answer;
-        }
-        Answered {
-            number: 1,
-            machine: self,
-        }
-    }
-
     // A number, and the machine with the fields that were lent.
     fn answered_with(mut self, number: u8, fields: [u16; 256]) -> Answered
         ensures { λ r. ⌜ r ≡ record { number = number; machine = withFields fields self } ⌝ }
@@ -147,9 +135,14 @@ impl Machine {
     pub fn access(self, right: u8, address: u32) -> Answered
         ensures { λ r. ⌜ r ≡ callOf self (Call.Access right address) ⌝ }
     {
+        if !self.sound() {
+            return Answered {
+                number: 1,
+                machine: self,
+            };
+        }
         let fields = self.fields;
-        let answer = self.access_lent(&fields, right, address);
-        self.checked(answer)
+        self.access_lent(&fields, right, address)
     }
 
     // The number of a grant or a revocation, from the field of that right to that page.
@@ -192,17 +185,29 @@ impl Machine {
     pub fn grant(self, right: u8, page: Page, domain: Domain) -> Answered
         ensures { λ r. ⌜ r ≡ callOf self (Call.Grant right page domain) ⌝ }
     {
+        if !self.sound() {
+            return Answered {
+                number: 1,
+                machine: self,
+            };
+        }
         let mut fields = self.fields;
         let number = self.change_lent(&mut fields, true, right, page, domain);
-        self.checked(self.answered_with(number, fields))
+        self.answered_with(number, fields)
     }
 
     pub fn revoke(self, right: u8, page: Page, domain: Domain) -> Answered
         ensures { λ r. ⌜ r ≡ callOf self (Call.Revoke right page domain) ⌝ }
     {
+        if !self.sound() {
+            return Answered {
+                number: 1,
+                machine: self,
+            };
+        }
         let mut fields = self.fields;
         let number = self.change_lent(&mut fields, false, right, page, domain);
-        self.checked(self.answered_with(number, fields))
+        self.answered_with(number, fields)
     }
 
     pub fn set_mask_unchecked(mut self, mask: u16) -> Answered
@@ -223,7 +228,13 @@ impl Machine {
     pub fn set_mask(self, mask: u16) -> Answered
         ensures { λ r. ⌜ r ≡ callOf self (Call.SetMask mask) ⌝ }
     {
-        self.checked(self.set_mask_unchecked(mask))
+        if !self.sound() {
+            return Answered {
+                number: 1,
+                machine: self,
+            };
+        }
+        self.set_mask_unchecked(mask)
     }
 
     // Interrupt entry on a lent stack, which it alters there.
@@ -252,9 +263,15 @@ impl Machine {
     pub fn enter(self) -> Answered
         ensures { λ r. ⌜ r ≡ callOf self Call.Enter ⌝ }
     {
+        if !self.sound() {
+            return Answered {
+                number: 1,
+                machine: self,
+            };
+        }
         let mut saved = self.saved;
         let answer = self.enter_lent(&mut saved);
-        self.checked(answer.with_saved(saved))
+        answer.with_saved(saved)
     }
 
     // Return from an interrupt on a lent stack, which it alters there.
@@ -284,9 +301,15 @@ impl Machine {
     pub fn leave(self) -> Answered
         ensures { λ r. ⌜ r ≡ callOf self Call.Return ⌝ }
     {
+        if !self.sound() {
+            return Answered {
+                number: 1,
+                machine: self,
+            };
+        }
         let mut saved = self.saved;
         let answer = self.leave_lent(&mut saved);
-        self.checked(answer.with_saved(saved))
+        answer.with_saved(saved)
     }
 
     // Switch to a program on a lent stack, which it alters there.
@@ -331,9 +354,15 @@ impl Machine {
     pub fn switch_to(self, program: u16) -> Answered
         ensures { λ r. ⌜ r ≡ callOf self (Call.Switch program) ⌝ }
     {
+        if !self.sound() {
+            return Answered {
+                number: 1,
+                machine: self,
+            };
+        }
         let mut saved = self.saved;
         let answer = self.switch_lent(&mut saved, program);
-        self.checked(answer.with_saved(saved))
+        answer.with_saved(saved)
     }
 
     // The kernel's store of a field on lent fields, which it alters there: its number.
@@ -357,9 +386,15 @@ impl Machine {
     pub fn store_field(self, right: u8, page: Page, bits: u16) -> Answered
         ensures { λ r. ⌜ r ≡ callOf self (Call.StoreField right page bits) ⌝ }
     {
+        if !self.sound() {
+            return Answered {
+                number: 1,
+                machine: self,
+            };
+        }
         let mut fields = self.fields;
         let number = self.store_lent(&mut fields, right, page, bits);
-        self.checked(self.answered_with(number, fields))
+        self.answered_with(number, fields)
     }
 
     // The number of the kernel's store of the global context or the mask.
@@ -387,7 +422,13 @@ impl Machine {
     pub fn store_context(self, bits: u16) -> Answered
         ensures { λ r. ⌜ r ≡ callOf self (Call.StoreContext bits) ⌝ }
     {
-        self.checked(self.store_context_unchecked(bits))
+        if !self.sound() {
+            return Answered {
+                number: 1,
+                machine: self,
+            };
+        }
+        self.store_context_unchecked(bits)
     }
 
     // The kernel's store of the mask.
@@ -407,7 +448,13 @@ impl Machine {
     pub fn store_mask(self, bits: u16) -> Answered
         ensures { λ r. ⌜ r ≡ callOf self (Call.StoreMask bits) ⌝ }
     {
-        self.checked(self.store_mask_unchecked(bits))
+        if !self.sound() {
+            return Answered {
+                number: 1,
+                machine: self,
+            };
+        }
+        self.store_mask_unchecked(bits)
     }
 
     // The kernel's store of the mode.
@@ -427,6 +474,12 @@ impl Machine {
     pub fn store_mode(self, mode: u16) -> Answered
         ensures { λ r. ⌜ r ≡ callOf self (Call.StoreMode mode) ⌝ }
     {
-        self.checked(self.store_mode_unchecked(mode))
+        if !self.sound() {
+            return Answered {
+                number: 1,
+                machine: self,
+            };
+        }
+        self.store_mode_unchecked(mode)
     }
 }

@@ -1,15 +1,19 @@
--- `Machine::access` meets its contract: the access on the machine's own fields, behind the check for 1.
+-- `Machine::access` meets its contract: the access on the machine's own fields, behind the test for soundness.
 use mathlib.Core.Path.{_∙_}
-use Rattle.machine.proofs.Answers.{checked-call}
 use Rattle.machine.proofs.LentParts.{access-own}
+use Rattle.machine.proofs.Answers.{sound-answers, unsound-answers}
 use borrow.Author.Needs.{needs}
 use Rattle.machine.proofs.record.Machine.access.Statement.{statement}
 use Rattle.machine.proofs.record.Machine.access.Tie as tie
 
 returns : tie.Need-returns
-returns c =
-    let made : tie.After-access-lent = (search) in
-    checked-call _ _ (c .checked .ensures) (made .access-lent .ensures ∙ access-own _ _ _)
+returns c = unsound-answers _ _ (c .before .sound .ensures) (c .if1 .taken)
+
+returns-2 : tie.Need-returns-2
+returns-2 c =
+    let testing : tie.After-sound = (search) in
+    let going : tie.Else1 = (search) in
+    sound-answers _ _ (testing .sound .ensures) (going .if1 .left) (c .access-lent .ensures ∙ access-own _ _ _)
 
 pub access-spec : {M : Type 1} → statement M
-access-spec = tie.close (tie.spec (λ c. search needs) (λ c κs. search needs) (λ c κs. search needs) returns)
+access-spec = tie.close (tie.spec (λ c κs. search needs) returns (λ c. search needs) (λ c κs. search needs) returns-2)

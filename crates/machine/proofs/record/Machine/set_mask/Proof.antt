@@ -1,13 +1,17 @@
--- `Machine::set_mask` meets its contract: the call without the check for 1, behind it.
-use Rattle.machine.proofs.Answers.{checked-call}
+-- `Machine::set_mask` meets its contract: the call without the check for 1, behind the test for soundness.
+use Rattle.machine.proofs.Answers.{sound-answers, unsound-answers}
 use borrow.Author.Needs.{needs}
 use Rattle.machine.proofs.record.Machine.set_mask.Statement.{statement}
 use Rattle.machine.proofs.record.Machine.set_mask.Tie as tie
 
 returns : tie.Need-returns
-returns c = checked-call _ _ (c .checked .ensures) (c .before .set-mask-unchecked .ensures)
+returns c = unsound-answers _ _ (c .before .sound .ensures) (c .if1 .taken)
+
+returns-2 : tie.Need-returns-2
+returns-2 c =
+    let testing : tie.After-sound = (search) in
+    let going : tie.Else1 = (search) in
+    sound-answers _ _ (testing .sound .ensures) (going .if1 .left) (c .set-mask-unchecked .ensures)
 
 pub set-mask-spec : {M : Type 1} → statement M
-set-mask-spec =
-    tie.close
-    (tie.spec (λ c κs. search needs) (λ c κs. search needs) returns)
+set-mask-spec = tie.close (tie.spec (λ c κs. search needs) returns (λ c κs. search needs) returns-2)

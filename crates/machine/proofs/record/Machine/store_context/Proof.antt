@@ -1,13 +1,17 @@
--- `Machine::store_context` meets its contract: the call without the check for 1, behind it.
-use Rattle.machine.proofs.Answers.{checked-call}
+-- `Machine::store_context` meets its contract: the call without the check for 1, behind the test for soundness.
+use Rattle.machine.proofs.Answers.{sound-answers, unsound-answers}
 use borrow.Author.Needs.{needs}
 use Rattle.machine.proofs.record.Machine.store_context.Statement.{statement}
 use Rattle.machine.proofs.record.Machine.store_context.Tie as tie
 
 returns : tie.Need-returns
-returns c = checked-call _ _ (c .checked .ensures) (c .before .store-context-unchecked .ensures)
+returns c = unsound-answers _ _ (c .before .sound .ensures) (c .if1 .taken)
+
+returns-2 : tie.Need-returns-2
+returns-2 c =
+    let testing : tie.After-sound = (search) in
+    let going : tie.Else1 = (search) in
+    sound-answers _ _ (testing .sound .ensures) (going .if1 .left) (c .store-context-unchecked .ensures)
 
 pub store-context-spec : {M : Type 1} → statement M
-store-context-spec =
-    tie.close
-    (tie.spec (λ c κs. search needs) (λ c κs. search needs) returns)
+store-context-spec = tie.close (tie.spec (λ c κs. search needs) returns (λ c κs. search needs) returns-2)

@@ -1,16 +1,21 @@
--- `Machine::store_field` meets its contract: the call on the machine's own fields, behind the check for 1.
+-- `Machine::store_field` meets its contract: the call on the machine's own fields, behind the test for soundness.
 use mathlib.Core.Path.{_∙_}
-use Rattle.machine.proofs.Answers.{checked-call}
 use Rattle.machine.proofs.LentParts.{store-alone}
+use Rattle.machine.proofs.Answers.{sound-answers, unsound-answers}
 use borrow.Author.Needs.{needs}
 use Rattle.machine.proofs.record.Machine.store_field.Statement.{statement}
 use Rattle.machine.proofs.record.Machine.store_field.Tie as tie
 
 returns : tie.Need-returns
-returns c =
+returns c = unsound-answers _ _ (c .before .sound .ensures) (c .if1 .taken)
+
+returns-2 : tie.Need-returns-2
+returns-2 c =
+    let testing : tie.After-sound = (search) in
+    let going : tie.Else1 = (search) in
     let made : tie.After-store-lent = (search) in
-    checked-call _ _ (c .checked .ensures)
-    (c .before .answered-with .ensures ∙ rw (made .store-lent .ensures .0, made .store-lent .ensures .1) (store-alone _ _ _ _))
+    sound-answers _ _ (testing .sound .ensures) (going .if1 .left)
+    (c .answered-with .ensures ∙ rw (made .store-lent .ensures .0, made .store-lent .ensures .1) (store-alone _ _ _ _))
 
 pub store-field-spec : {M : Type 1} → statement M
-store-field-spec = tie.close (tie.spec (λ c. search needs) (λ c κs. search needs) (λ c κs. search needs) (λ c κs. search needs) returns)
+store-field-spec = tie.close (tie.spec (λ c κs. search needs) returns (λ c. search needs) (λ c κs. search needs) (λ c κs. search needs) returns-2)

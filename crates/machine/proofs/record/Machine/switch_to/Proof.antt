@@ -1,20 +1,24 @@
--- `Machine::switch_to` meets its contract: the call on the machine's own stack, behind the check for 1.
+-- `Machine::switch_to` meets its contract: the call on the machine's own stack, behind the test for soundness.
 use mathlib.Core.Path.{refl, _∙_}
 use Rattle.machine.specs.Calls.{effectOf, switched}
 use Rattle.machine.specs.declared.record.Call.the-variants.{Switch}
-use Rattle.machine.proofs.Answers.{checked-call}
 use Rattle.machine.proofs.LentParts.{stack-own}
+use Rattle.machine.proofs.Answers.{sound-answers, unsound-answers}
 use borrow.Author.Needs.{needs}
 use Rattle.machine.proofs.record.Machine.switch_to.Statement.{statement}
 use Rattle.machine.proofs.record.Machine.switch_to.Tie as tie
 
 returns : tie.Need-returns
+returns c = unsound-answers _ _ (c .before .sound .ensures) (c .if1 .taken)
+
+returns-2 : tie.Need-returns-2
 unfolding effectOf switched
-returns c =
+returns-2 c =
+    let testing : tie.After-sound = (search) in
+    let going : tie.Else1 = (search) in
     let made : tie.After-switch-lent = (search) in
-    checked-call _ _ (c .checked .ensures) (c .before .with-saved .ensures ∙ rw (made .switch-lent .ensures .0, made .switch-lent .ensures .1) (stack-own _ (Switch _) refl))
+    sound-answers _ _ (testing .sound .ensures) (going .if1 .left)
+    (c .with-saved .ensures ∙ rw (made .switch-lent .ensures .0, made .switch-lent .ensures .1) (stack-own _ (Switch _) refl))
 
 pub switch-to-spec : {M : Type 1} → statement M
-switch-to-spec =
-    tie.close
-    (tie.spec (λ c. search needs) (λ c κs. search needs) (λ c κs. search needs) (λ c κs. search needs) returns)
+switch-to-spec = tie.close (tie.spec (λ c κs. search needs) returns (λ c. search needs) (λ c κs. search needs) (λ c κs. search needs) returns-2)
