@@ -39,10 +39,9 @@ impl Mode {
         ensures { λ r. ⌜ r ≡ modeWhere privileged ⌝ }
     {
         if privileged {
-            Mode::Privileged
-        } else {
-            Mode::User
+            return Mode::Privileged;
         }
+        Mode::User
     }
 }
 
