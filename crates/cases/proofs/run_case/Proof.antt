@@ -10,32 +10,11 @@ use Rattle.cases.proofs.Places.{end-past}
 use Rattle.cases.proofs.run_case.Statement.{statement}
 use Rattle.cases.proofs.run_case.Tie as tie
 
-cast-end-at : tie.Need-cast-end-at
-cast-end-at c = search needs
-
-end-at-requires : tie.Need-end-at-requires
-end-at-requires c κs = search needs
-
-add-result : tie.Need-add-result
-add-result c = search needs
-
-add-print-case : tie.Need-add-print-case
-add-print-case c = search needs
-
 sub-print-case : tie.Need-sub-print-case
 sub-print-case c = rw (c .before .end-at .ensures) (end-past _ _)
 
 part-print-case-start : tie.Need-part-print-case-start
 part-print-case-start c = omega (arith, c .before .end-at .ensures, end-past (c .before .before .before .args .bytes .now) (c .before .before .before .args .at))
-
-part-print-case-end : tie.Need-part-print-case-end
-part-print-case-end c = search needs
-
-print-case-requires : tie.Need-print-case-requires
-print-case-requires c κs = search needs
-
-add-result-2 : tie.Need-add-result-2
-add-result-2 c = search needs
 
 -- what is printed is the rest of the case
 printed : (c : tie.After-print-case) → c .before .before .before .before .before .args .at + 4 + c .print-case .result ≡ c .before .before .before .end-at .result
@@ -57,15 +36,5 @@ returns-2 c = rw (← c .before .end-at .ensures, lt-leb _ _ (c .if1 .left))
 pub run-case-spec : {M : Type 1} → statement M
 run-case-spec =
     tie.close
-    (tie.spec
-    cast-end-at
-    end-at-requires
-    add-result
-    add-print-case
-    sub-print-case
-    part-print-case-start
-    part-print-case-end
-    print-case-requires
-    add-result-2
-    returns
-    returns-2)
+    (tie.spec (λ c. search needs) (λ c κs. search needs) (λ c. search needs) (λ c. search needs) sub-print-case part-print-case-start
+    (λ c. search needs) (λ c κs. search needs) (λ c. search needs) returns returns-2)

@@ -13,15 +13,6 @@ Inv-loop bytes at₀ number₀ at number = (at ≤ length bytes) × (number ≤ 
 abbrev μ-loop : tie.MeasureT-loop
 μ-loop bytes at₀ number₀ at number = length bytes - at
 
-loop-holds : tie.Need-loop-holds Inv-loop μ-loop
-loop-holds c = search needs
-
-run-case-requires : tie.Need-run-case-requires Inv-loop μ-loop
-run-case-requires c κs = search needs
-
-add-number : tie.Need-add-number Inv-loop μ-loop
-add-number c = omega arith
-
 -- the next case stands further on, and within the bytes
 further : (c : tie.After-run-case Inv-loop μ-loop) → (c .before .before .loop .at < c .run-case .result) × (c .run-case .result ≤ length (c .before .before .before .before .args .bytes .now))
 further c = rw (c .run-case .ensures) (next-past _ _ (c .before .loop-test .taken))
@@ -32,18 +23,7 @@ loop-less c = omega (arith, further c)
 loop-again : tie.Need-loop-again Inv-loop μ-loop
 loop-again c = (omega (arith, further c), omega (arith, further c))
 
-returns : tie.Need-returns Inv-loop μ-loop
-returns c = omega arith
-
 pub run-cases-spec : {M : Type 1} → statement M
 run-cases-spec =
     tie.close
-    (tie.spec
-    Inv-loop
-    μ-loop
-    loop-holds
-    run-case-requires
-    add-number
-    loop-less
-    loop-again
-    returns)
+    (tie.spec Inv-loop μ-loop (λ c. search needs) (λ c κs. search needs) (λ c. search needs) loop-less loop-again (λ c. search needs))

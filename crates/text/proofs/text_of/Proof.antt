@@ -13,15 +13,6 @@ returns c =
     let out = c .before .before .before .args .out .now in
     rw (lt-leb 100000 (length out) (c .if1 .taken)) (put-none out 0)
 
-slice-aggregate-put-bytes : tie.Need-slice-aggregate-put-bytes
-slice-aggregate-put-bytes c = search needs
-
-put-bytes-requires : tie.Need-put-bytes-requires
-put-bytes-requires c κs = search needs
-
-same-length : tie.Need-same-length
-same-length c = search needs
-
 returns-2 : tie.Need-returns-2
 unfolding printed textOf
 returns-2 c =
@@ -29,12 +20,6 @@ returns-2 c =
     let room = long .before in
     let a = room .before .before .before .args in
     rw (le-leb 100000 (length (a .out .now)) (room .if1 .left), lt-ltb 32768 (length (a .input .now)) (long .if2 .taken)) (c .before .before .put-bytes .ensures)
-
-put-run-requires : tie.Need-put-run-requires
-put-run-requires c κs = search needs
-
-same-length-2 : tie.Need-same-length-2
-same-length-2 c = search needs
 
 returns-3 : tie.Need-returns-3
 unfolding printed textOf
@@ -47,12 +32,5 @@ returns-3 c =
 pub text-of-spec : {M : Type 1} → statement M
 text-of-spec =
     tie.close
-    (tie.spec
-    returns
-    slice-aggregate-put-bytes
-    put-bytes-requires
-    same-length
-    returns-2
-    put-run-requires
-    same-length-2
+    (tie.spec returns (λ c. search needs) (λ c κs. search needs) (λ c. search needs) returns-2 (λ c κs. search needs) (λ c. search needs)
     returns-3)

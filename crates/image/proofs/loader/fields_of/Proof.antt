@@ -19,41 +19,8 @@ Inv-loop bytes pages fields₀ count i₀ fields i =
 abbrev μ-loop : tie.MeasureT-loop
 μ-loop bytes pages fields₀ count i₀ fields i = count - i
 
-byte-at-requires : tie.Need-byte-at-requires Inv-loop μ-loop
-byte-at-requires c κs = search needs
-
-cast-count : tie.Need-cast-count Inv-loop μ-loop
-cast-count c = search needs
-
-mul-count : tie.Need-mul-count Inv-loop μ-loop
-mul-count c = search needs
-
 loop-holds : tie.Need-loop-holds Inv-loop μ-loop
 loop-holds c = (search needs, search needs, refl)
-
-mul-field-at : tie.Need-mul-field-at Inv-loop μ-loop
-mul-field-at c = omega arith
-
-add-field-at : tie.Need-add-field-at Inv-loop μ-loop
-add-field-at c = omega arith
-
-field-at-requires : tie.Need-field-at-requires Inv-loop μ-loop
-field-at-requires c κs = search needs
-
-cast-fields : tie.Need-cast-fields Inv-loop μ-loop
-cast-fields c = search needs
-
-mul-fields : tie.Need-mul-fields Inv-loop μ-loop
-mul-fields c = search needs
-
-array-write-fields : tie.Need-array-write-fields Inv-loop μ-loop
-array-write-fields c = search needs
-
-add-i : tie.Need-add-i Inv-loop μ-loop
-add-i c = omega arith
-
-loop-less : tie.Need-loop-less Inv-loop μ-loop
-loop-less c = omega arith
 
 loop-again : tie.Need-loop-again Inv-loop μ-loop
 loop-again c =
@@ -81,21 +48,6 @@ returns-2 c =
 pub fields-of-spec : {M : Type 1} → statement M
 fields-of-spec =
     tie.close
-    (tie.spec
-    Inv-loop
-    μ-loop
-    byte-at-requires
-    cast-count
-    mul-count
-    loop-holds
-    mul-field-at
-    add-field-at
-    field-at-requires
-    cast-fields
-    mul-fields
-    array-write-fields
-    add-i
-    loop-less
-    loop-again
-    returns
+    (tie.spec Inv-loop μ-loop (λ c κs. search needs) (λ c. search needs) (λ c. search needs) loop-holds (λ c. search needs) (λ c. search needs)
+    (λ c κs. search needs) (λ c. search needs) (λ c. search needs) (λ c. search needs) (λ c. search needs) (λ c. search needs) loop-again returns
     returns-2)

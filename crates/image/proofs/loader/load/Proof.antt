@@ -4,18 +4,9 @@ use borrow.Author.Needs.{needs}
 use Rattle.image.proofs.loader.load.Statement.{statement}
 use Rattle.image.proofs.loader.load.Tie as tie
 
-load-number-requires : tie.Need-load-number-requires
-load-number-requires c κs = search needs
-
-machine-of-requires : tie.Need-machine-of-requires
-machine-of-requires c κs = search needs
-
 returns : tie.Need-returns
 unfolding loadOf
 returns c = rw (c .machine-of .ensures, ← c .before .before .load-number .ensures, c .before .if1 .taken)
-
-zero-requires : tie.Need-zero-requires
-zero-requires c κs = search needs
 
 returns-2 : tie.Need-returns-2
 unfolding loadOf
@@ -23,4 +14,4 @@ returns-2 c = rw (c .zero .ensures, ← c .before .before .load-number .ensures,
 
 pub load-spec : {M : Type 1} → statement M
 load-spec =
-    tie.close (tie.spec load-number-requires machine-of-requires returns zero-requires returns-2)
+    tie.close (tie.spec (λ c κs. search needs) (λ c κs. search needs) returns (λ c κs. search needs) returns-2)

@@ -19,20 +19,8 @@ Inv-loop bytes pages programs i₀ i =
 abbrev μ-loop : tie.MeasureT-loop
 μ-loop bytes pages programs i₀ i = programs - i
 
-byte-at-requires : tie.Need-byte-at-requires Inv-loop μ-loop
-byte-at-requires c κs = search needs
-
-byte-at-requires-2 : tie.Need-byte-at-requires-2 Inv-loop μ-loop
-byte-at-requires-2 c κs = search needs
-
 loop-holds : tie.Need-loop-holds Inv-loop μ-loop
 loop-holds c = (omega arith, simp (add-zero, sub-zero))
-
-program-place-requires : tie.Need-program-place-requires Inv-loop μ-loop
-program-place-requires c κs = search needs
-
-mode-at-requires : tie.Need-mode-at-requires Inv-loop μ-loop
-mode-at-requires c κs = search needs
 
 returns : tie.Need-returns Inv-loop μ-loop
 returns c =
@@ -43,12 +31,6 @@ returns c =
     rw (c .before .mode-at .ensures, c .before .before .program-place .ensures, c .before .before .before .before .before .before .byte-at .ensures) in
     let more = left-some 5 (modeAt s) (programCount s) (loop .i) at (omega arith) in
     rw (loop .inv .1, more, ← mode, lt-leb _ _ (c .if1 .taken))
-
-add-i : tie.Need-add-i Inv-loop μ-loop
-add-i c = omega arith
-
-loop-less : tie.Need-loop-less Inv-loop μ-loop
-loop-less c = omega arith
 
 loop-again : tie.Need-loop-again Inv-loop μ-loop
 loop-again c =
@@ -69,16 +51,5 @@ returns-2 c =
 pub modes-hold-spec : {M : Type 1} → statement M
 modes-hold-spec =
     tie.close
-    (tie.spec
-    Inv-loop
-    μ-loop
-    byte-at-requires
-    byte-at-requires-2
-    loop-holds
-    program-place-requires
-    mode-at-requires
-    returns
-    add-i
-    loop-less
-    loop-again
-    returns-2)
+    (tie.spec Inv-loop μ-loop (λ c κs. search needs) (λ c κs. search needs) loop-holds (λ c κs. search needs) (λ c κs. search needs) returns
+    (λ c. search needs) (λ c. search needs) loop-again returns-2)

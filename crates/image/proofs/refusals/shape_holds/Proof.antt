@@ -16,24 +16,6 @@ memory-guarded a true b₁ b₂ b₃ x most = refl
 memory-guarded true false b₁ b₂ b₃ x most = refl
 memory-guarded false false b₁ b₂ b₃ x most = refl
 
-byte-at-requires : tie.Need-byte-at-requires
-byte-at-requires c κs = search needs
-
-byte-at-requires-2 : tie.Need-byte-at-requires-2
-byte-at-requires-2 c κs = search needs
-
-byte-at-requires-3 : tie.Need-byte-at-requires-3
-byte-at-requires-3 c κs = search needs
-
-byte-at-requires-4 : tie.Need-byte-at-requires-4
-byte-at-requires-4 c κs = search needs
-
-cast-memory-size : tie.Need-cast-memory-size
-cast-memory-size c = search needs
-
-memory-size-requires : tie.Need-memory-size-requires
-memory-size-requires c κs = search needs
-
 returns : tie.Need-returns
 unfolding shapeTests
 returns c =
@@ -49,11 +31,5 @@ returns c =
 pub shape-holds-spec : {M : Type 1} → statement M
 shape-holds-spec =
     tie.close
-    (tie.spec
-    byte-at-requires
-    byte-at-requires-2
-    byte-at-requires-3
-    byte-at-requires-4
-    cast-memory-size
-    memory-size-requires
-    returns)
+    (tie.spec (λ c κs. search needs) (λ c κs. search needs) (λ c κs. search needs) (λ c κs. search needs) (λ c. search needs)
+    (λ c κs. search needs) returns)

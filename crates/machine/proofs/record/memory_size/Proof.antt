@@ -6,9 +6,6 @@ use native.Mathlib.Omega.{arith}
 use Rattle.machine.proofs.record.memory_size.Statement.{statement}
 use Rattle.machine.proofs.record.memory_size.Tie as tie
 
-shl-result : tie.Need-shl-result
-shl-result c = search needs
-
 returns : tie.Need-returns
 returns c =
     let a = c .before .args in
@@ -18,4 +15,4 @@ returns-2 : tie.Need-returns-2
 returns-2 c = rw (lt-leb (c .before .args .exponent) 12 (c .if1 .left))
 
 pub memory-size-spec : {M : Type 1} → statement M
-memory-size-spec = tie.close (tie.spec shl-result returns returns-2)
+memory-size-spec = tie.close (tie.spec (λ c. search needs) returns returns-2)

@@ -5,20 +5,8 @@ use lib.Seq.{set-out}
 use Rattle.machine.proofs.record.write_field.Statement.{statement}
 use Rattle.machine.proofs.record.write_field.Tie as tie
 
-mul-fields : tie.Need-mul-fields
-mul-fields c = search needs
-
-slice-write-fields : tie.Need-slice-write-fields
-slice-write-fields c = search needs
-
-same-length : tie.Need-same-length
-same-length c = search needs
-
-returns : tie.Need-returns
-returns c = search needs
-
 returns-2 : tie.Need-returns-2
 returns-2 c = sym (set-out (c .before .args .fields .now) (c .before .args .at) (c .before .args .bits) (c .if1 .left))
 
 pub write-field-spec : {M : Type 1} → statement M
-write-field-spec = tie.close (tie.spec mul-fields slice-write-fields same-length returns returns-2)
+write-field-spec = tie.close (tie.spec (λ c. search needs) (λ c. search needs) (λ c. search needs) (λ c. search needs) returns-2)

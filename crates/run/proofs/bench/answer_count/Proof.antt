@@ -4,9 +4,6 @@ use borrow.Author.Needs.{needs}
 use Rattle.run.proofs.bench.answer_count.Statement.{statement}
 use Rattle.run.proofs.bench.answer_count.Tie as tie
 
-add-result : tie.Need-add-result
-add-result c = search needs
-
 returns : tie.Need-returns
 returns c = rw (eq-eqb (c .before .args .number) 0 (c .if1 .taken))
 
@@ -14,4 +11,4 @@ returns-2 : tie.Need-returns-2
 returns-2 c = rw (ne-eqb (c .before .args .number) 0 (c .if1 .left))
 
 pub answer-count-spec : {M : Type 1} → statement M
-answer-count-spec = tie.close (tie.spec add-result returns returns-2)
+answer-count-spec = tie.close (tie.spec (λ c. search needs) returns returns-2)

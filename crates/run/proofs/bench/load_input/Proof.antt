@@ -7,25 +7,10 @@ use borrow.Author.Needs.{needs}
 use Rattle.run.proofs.bench.load_input.Statement.{statement}
 use Rattle.run.proofs.bench.load_input.Tie as tie
 
-part-load-start : tie.Need-part-load-start
-part-load-start c = search needs
-
-part-load-end : tie.Need-part-load-end
-part-load-end c = search needs
-
-load-requires : tie.Need-load-requires
-load-requires c κs = search needs
-
 returns : tie.Need-returns
 returns c =
     let start = c .before .before .before .before in
     c .load .ensures ∙ ap loadOf (image-part (start .args .input .now) (start .pre))
-
-slice-aggregate-load : tie.Need-slice-aggregate-load
-slice-aggregate-load c = search needs
-
-load-requires-2 : tie.Need-load-requires-2
-load-requires-2 c κs = search needs
 
 returns-2 : tie.Need-returns-2
 returns-2 c =
@@ -35,11 +20,4 @@ returns-2 c =
 pub load-input-spec : {M : Type 1} → statement M
 load-input-spec =
     tie.close
-    (tie.spec
-    part-load-start
-    part-load-end
-    load-requires
-    returns
-    slice-aggregate-load
-    load-requires-2
-    returns-2)
+    (tie.spec (λ c. search needs) (λ c. search needs) (λ c κs. search needs) returns (λ c. search needs) (λ c κs. search needs) returns-2)
