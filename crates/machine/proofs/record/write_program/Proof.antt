@@ -2,19 +2,10 @@
 use mathlib.Core.Path.{_≡_, sym}
 use native.Mathlib.Omega.{arith}
 use lib.ListN.{length}
-use borrow.Author.Needs.{needs}
 use lib.Seq.{set-out}
+use borrow.Author.Needs.{needs}
 use Rattle.machine.proofs.record.write_program.Statement.{statement}
 use Rattle.machine.proofs.record.write_program.Tie as tie
-
-mul-table : tie.Need-mul-table
-mul-table c = search needs
-
-array-set-from-table : tie.Need-array-set-from-table
-array-set-from-table c = search needs
-
-returns : tie.Need-returns
-returns c = search needs
 
 returns-2 : tie.Need-returns-2
 returns-2 c =
@@ -22,4 +13,4 @@ returns-2 c =
     sym (set-out (c .before .args .t1) (c .before .args .at) (c .before .args .entry) (omega (arith, long)))
 
 pub write-program-spec : {M : Type 1} → statement M
-write-program-spec = tie.close (tie.spec mul-table array-set-from-table returns returns-2)
+write-program-spec = tie.close (tie.spec (λ c. search needs) (λ c. search needs) (λ c. search needs) returns-2)

@@ -9,12 +9,12 @@ use Rattle.run.proofs.bench.load_input.Tie as tie
 
 returns : tie.Need-returns
 returns c =
-    let start = c .before .before .before .before in
+    let start : tie.Start = (search) in
     c .load .ensures ∙ ap loadOf (image-part (start .args .input .now) (start .pre))
 
 returns-2 : tie.Need-returns-2
 returns-2 c =
-    let start = c .before .before .before .before in
+    let start : tie.Start = (search) in
     c .load2 .ensures ∙ ap loadOf (sym (image-empty (start .args .input .now) (start .pre) (omega arith)))
 
 pub load-input-spec : {M : Type 1} → statement M

@@ -5,7 +5,9 @@ use Rattle.run.proofs.records.decode.Statement.{statement}
 use Rattle.run.proofs.records.decode.Tie as tie
 
 returns : tie.Need-returns
-returns c = c .call-of-kind .ensures ∙ rw (c .before .word-of2 .ensures, c .before .before .before .before .word-of .ensures)
+returns c =
+    let reading : tie.After-word-of = (search) in
+    c .call-of-kind .ensures ∙ rw (c .before .word-of2 .ensures, reading .word-of .ensures)
 
 pub decode-spec : {M : Type 1} → statement M
 decode-spec =

@@ -4,44 +4,21 @@ use borrow.Author.Needs.{needs}
 use Rattle.machine.proofs.record.Machine.change_number.Statement.{statement}
 use Rattle.machine.proofs.record.Machine.change_number.Tie as tie
 
-prevailing-of-requires : tie.Need-prevailing-of-requires
-prevailing-of-requires c κs = search needs
-
-privileged-requires : tie.Need-privileged-requires
-privileged-requires c κs = search needs
-
-local-requires : tie.Need-local-requires
-local-requires c κs = search needs
-
-outside-requires : tie.Need-outside-requires
-outside-requires c κs = search needs
-
-not-lower-requires : tie.Need-not-lower-requires
-not-lower-requires c κs = search needs
-
-change-number-requires : tie.Need-change-number-requires
-change-number-requires c κs = search needs
-
 returns : tie.Need-returns
 unfolding changeChecks
 returns c =
+    let prevailing : tie.After-prevailing-of = (search) in
+    let asking : tie.After-privileged = (search) in
+    let masking : tie.After-local = (search) in
+    let comparing : tie.After-outside = (search) in
     rw (
       c .change-number .ensures,
       c .before .not-lower .ensures,
-      c .before .before .outside .ensures,
-      c .before .before .before .local .ensures,
-      c .before .before .before .before .privileged .ensures,
-      c .before .before .before .before .before .before .before .before .prevailing-of .ensures,
+      comparing .outside .ensures,
+      masking .local .ensures,
+      asking .privileged .ensures,
+      prevailing .prevailing-of .ensures,
     )
 
 pub change-number-spec : {M : Type 1} → statement M
-change-number-spec =
-    tie.close
-    (tie.spec
-    prevailing-of-requires
-    privileged-requires
-    local-requires
-    outside-requires
-    not-lower-requires
-    change-number-requires
-    returns)
+change-number-spec = tie.close (tie.spec (λ c κs. search needs) (λ c κs. search needs) (λ c κs. search needs) (λ c κs. search needs) (λ c κs. search needs) (λ c κs. search needs) returns)

@@ -1,32 +1,23 @@
 -- `Machine::set_mask_unchecked` meets its contract: it changes the registers alone, as the mask command on the register record does.
-use Rattle.machine.proofs.Answers.{registers-answered}
-use Rattle.machine.proofs.MaskCommand.{mask-taken}
+use mathlib.Core.Path.{refl}
 use Rattle.rules.specs.Registers.{maskedOf}
 use Rattle.machine.specs.Calls.{checksOf, effectOf}
 use Rattle.machine.specs.declared.record.Call.the-variants.{SetMask}
-use mathlib.Core.Path.{refl}
+use Rattle.machine.proofs.Answers.{registers-answered}
+use Rattle.machine.proofs.MaskCommand.{mask-taken}
 use borrow.Author.Needs.{needs}
 use Rattle.machine.proofs.record.Machine.set_mask_unchecked.Statement.{statement}
 use Rattle.machine.proofs.record.Machine.set_mask_unchecked.Tie as tie
 
-replace-mask-requires : tie.Need-replace-mask-requires
-replace-mask-requires c κs = search needs
-
-or-where-requires : tie.Need-or-where-requires
-or-where-requires c κs = search needs
-
 returns : tie.Need-returns
 unfolding checksOf effectOf maskedOf
 returns c =
-    let a = c .before .before .before .before .args in
-    let done = c .before .before .replace-mask .ensures in
+    let start : tie.Start = (search) in
+    let replacing : tie.After-replace-mask = (search) in
+    let a = start .args in
+    let done = replacing .replace-mask .ensures in
     registers-answered (a .self) (SetMask (a .mask)) (rw done) refl refl
     (rw (c .or-where .ensures, done) (mask-taken (a .self .registers) (a .mask)))
 
 pub set-mask-unchecked-spec : {M : Type 1} → statement M
-set-mask-unchecked-spec =
-    tie.close
-    (tie.spec
-    replace-mask-requires
-    or-where-requires
-    returns)
+set-mask-unchecked-spec = tie.close (tie.spec (λ c κs. search needs) (λ c κs. search needs) returns)

@@ -1,20 +1,18 @@
-use borrow.Author.Needs.{needs}
+-- `Machine::sound` meets its contract: its tests are the clauses of soundness; the memory size that the code works out is the machine's where the
+-- exponent is in range.
 use Rattle.machine.specs.Machine.{isSound}
 use Rattle.machine.proofs.Sound.{memory-guarded}
+use borrow.Author.Needs.{needs}
 use Rattle.machine.proofs.record.Machine.sound.Statement.{statement}
 use Rattle.machine.proofs.record.Machine.sound.Tie as tie
-
-memory-size-requires : tie.Need-memory-size-requires
-memory-size-requires c κs = search needs
-
-privileged-requires : tie.Need-privileged-requires
-privileged-requires c κs = search needs
 
 returns : tie.Need-returns
 unfolding isSound
 returns c =
-    let m = c .before .before .before .before .before .before .before .before .before .before .before .before .args .self in
-    rw (c .before .before .before .memory-size .ensures, c .before .privileged .ensures, memory-guarded m)
+    let start : tie.Start = (search) in
+    let sizing : tie.After-memory-size = (search) in
+    let asking : tie.After-privileged = (search) in
+    rw (sizing .memory-size .ensures, asking .privileged .ensures, memory-guarded (start .args .self))
 
 pub sound-spec : {M : Type 1} → statement M
-sound-spec = tie.close (tie.spec memory-size-requires privileged-requires returns)
+sound-spec = tie.close (tie.spec (λ c κs. search needs) (λ c κs. search needs) returns)

@@ -9,53 +9,22 @@ use borrow.Author.Needs.{needs}
 use Rattle.machine.proofs.record.Machine.store_lent.Statement.{statement}
 use Rattle.machine.proofs.record.Machine.store_lent.Tie as tie
 
-privileged-requires : tie.Need-privileged-requires
-privileged-requires c κs = search needs
-
-field-number-requires : tie.Need-field-number-requires
-field-number-requires c κs = search needs
-
-cast-place : tie.Need-cast-place
-cast-place c = search needs
-
-place-requires : tie.Need-place-requires
-place-requires c κs = search needs
-
-read-field-requires : tie.Need-read-field-requires
-read-field-requires c κs = search needs
-
-chosen-requires : tie.Need-chosen-requires
-chosen-requires c κs = search needs
-
-write-field-requires : tie.Need-write-field-requires
-write-field-requires c κs = search needs
-
-same-length : tie.Need-same-length
-same-length c = search needs
-
 returns : tie.Need-returns
 unfolding checksOf effectOf
 returns c =
-    let numbered = c .before .before .before .before .before .before .before .before .before in
-    let a = numbered .before .before .before .before .before .before .args in
-    let place = c .before .before .before .before .before .before .before .place in
+    let start : tie.Start = (search) in
+    let asking : tie.After-privileged = (search) in
+    let numbering : tie.After-field-number = (search) in
+    let placing : tie.After-place = (search) in
+    let reading : tie.After-read-field = (search) in
+    let choosing : tie.After-chosen = (search) in
+    let writing : tie.After-write-field = (search) in
+    let a = start .args in
     let answer =
-    store-answered (withFields (a .fields .now) (a .self)) (StoreField (a .right) (a .page) (a .bits)) {n = numbered .field-number .result} (place .result)
-    (a .bits) (c .before .before .before .before .before .read-field .ensures)
-    (rw (numbered .field-number .ensures, numbered .before .privileged .ensures))
-    refl (rw (← place .ensures)) (c .before .before .before .chosen .ensures) (c .before .before .write-field .ensures) in
+    store-answered (withFields (a .fields .now) (a .self)) (StoreField (a .right) (a .page) (a .bits)) {n = numbering .field-number .result}
+    (placing .place .result) (a .bits) (reading .read-field .ensures) (rw (numbering .field-number .ensures, asking .privileged .ensures))
+    refl (rw (← placing .place .ensures)) (choosing .chosen .ensures) (writing .write-field .ensures) in
     (ap (λ (r : Answered). r .number) answer, ap (λ (r : Answered). r .machine .fields) answer)
 
 pub store-lent-spec : {M : Type 1} → statement M
-store-lent-spec =
-    tie.close
-    (tie.spec
-    privileged-requires
-    field-number-requires
-    cast-place
-    place-requires
-    read-field-requires
-    chosen-requires
-    write-field-requires
-    same-length
-    returns)
+store-lent-spec = tie.close (tie.spec (λ c κs. search needs) (λ c κs. search needs) (λ c. search needs) (λ c κs. search needs) (λ c κs. search needs) (λ c κs. search needs) (λ c κs. search needs) (λ c. search needs) returns)
