@@ -11,7 +11,7 @@ use Rattle.machine.specs.Machine.{isSound, noProgram, zero}
 use Rattle.machine.specs.declared.record.Machine.{Machine}
 use Rattle.machine.specs.Listed.{isIn}
 use Rattle.machine.proofs.Sound.{facts-sound}
-use Rattle.machine.proofs.Laws.{first-within}
+use Rattle.machine.proofs.Told.{first-within}
 use Rattle.image.specs.Description.{machineOf, liveOf}
 use Rattle.image.specs.Load.{fieldsOf, programsOf, programAt, fieldAt, pageCount, programCount, describe, loadChecks, loadOf}
 use Rattle.image.proofs.Entries.{length-entries, pad-at, pad-past}

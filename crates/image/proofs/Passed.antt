@@ -1,13 +1,13 @@
 -- What an image that nothing refuses says of its bytes, as equations and bounds, and back.
 use Prim.Native.Nat.{ℕ, zero, suc, _+_, _*_, _^_, _≤_}
 use mathlib.Core.Path.{_≡_, refl}
-use mathlib.Core.Bool.{Bool, true, not, _&&_}
+use mathlib.Core.Bool.{Bool, true, false, _&&_}
 use mathlib.Core.List.{List, [], _∷_, foldl}
 use borrow.Author.Tests.{leb-true, eqb-true, le-leb, eq-eqb, not-false}
 use native.Mathlib.Omega.{arith}
 use lib.ListN.{length, getD}
-use Rattle.rules.specs.Refusals.{_⇒_, first}
-use Rattle.machine.proofs.Answers.{none-met}
+use Rattle.rules.specs.Refusals.{first}
+use Rattle.machine.proofs.Answers.{metAt, unmet}
 use Rattle.machine.proofs.Sound.{and-both}
 use Rattle.image.specs.Load.{kindAt, zeroAt, offsetAt, lengthAt, pageCount, pageExponent, programCount, shapeZero, modesOf, every, areModes, lengthTests, kindTests, shapeEntryTests, shapeTests, bodyTests, loadChecks}
 
@@ -53,23 +53,12 @@ module _ (s : List ℕ) where
       × (every (bodyTests s) ≡ true) × (areModes (modesOf s) ≡ true)
   unfolding loadChecks
   none h =
-      let modes = areModes (modesOf s) in
-      let c₅ = (not modes ⇒ 25) ∷ [] in
-      let c₄ = (not (every (bodyTests s)) ⇒ 24) ∷ c₅ in
-      let c₃ = (not (every (shapeTests s)) ⇒ 23) ∷ c₄ in
-      let c₂ = (not (every (shapeEntryTests s)) ⇒ 22) ∷ c₃ in
-      let c₁ = (not (every (kindTests s)) ⇒ 21) ∷ c₂ in
-      let h₀ = none-met (not (every (lengthTests s))) 20 c₁ h refl in
-      let h₁ = none-met (not (every (kindTests s))) 21 c₂ (h₀ .1) refl in
-      let h₂ = none-met (not (every (shapeEntryTests s))) 22 c₃ (h₁ .1) refl in
-      let h₃ = none-met (not (every (shapeTests s))) 23 c₄ (h₂ .1) refl in
-      let h₄ = none-met (not (every (bodyTests s))) 24 c₅ (h₃ .1) refl in
-      let h₅ = none-met (not modes) 25 [] (h₄ .1) refl in (
-        not-false (every (kindTests s)) (h₁ .0),
-        not-false (every (shapeEntryTests s)) (h₂ .0),
-        not-false (every (shapeTests s)) (h₃ .0),
-        not-false (every (bodyTests s)) (h₄ .0),
-        not-false modes (h₅ .0),
+      let met : (k : ℕ) → metAt k (loadChecks s) ≡ false = λ k. unmet k (loadChecks s) refl h in (
+        not-false _ (met 1),
+        not-false _ (met 2),
+        not-false _ (met 3),
+        not-false _ (met 4),
+        not-false _ (met 5),
       )
 
   pub passed : first (loadChecks s) ≡ 0 → Passed s

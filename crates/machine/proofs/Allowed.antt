@@ -16,7 +16,7 @@ use Rattle.machine.specs.Machine.{isSound, memorySize, fieldOf}
 use Rattle.machine.specs.Calls.{accessChecks, checksOf, isRight, inPrivilegedMode, numberOf}
 use Rattle.machine.specs.declared.record.Machine.{Machine}
 use Rattle.machine.specs.declared.record.Call.the-variants.{Access}
-use Rattle.machine.proofs.Answers.{none-met, accepted}
+use Rattle.machine.proofs.Answers.{accepted, metAt, unmet}
 
 -- on a page that is there: in privileged mode, or with the flag clear where the field of that right to the page shares a domain with the local
 -- context
@@ -39,31 +39,35 @@ module _ (m : Machine) (right address : ℕ) where
   abbrev apart : ℕ → Bool
   apart page = eqb (bitAnd (fieldOf m right page) (localContext (m .registers))) 0
 
-  -- the conditions in user mode
-  abbrev inside : Bool → List Check
-  inside privileged = pick privileged [] ((m .registers .pending ⇒ 8) ∷ (apart (address / size) ⇒ 9) ∷ [])
+  -- the conditions, by the mode
+  abbrev checks : Bool → List Check
+  checks privileged =
+      (not (isRight right) ⇒ 2)
+      ∷ (leb (memorySize m) address ⇒ 3)
+      ∷ pick privileged [] ((m .registers .pending ⇒ 8) ∷ (apart (address / size) ⇒ 9) ∷ [])
 
   pub allowed : numberOf m (Access right address) ≡ 0 → Allowed m right address
   unfolding checksOf accessChecks
   allowed h =
-      let user = inside (inPrivilegedMode m) in
-      let p₀ = none-met (not (isRight right)) 2 ((leb (memorySize m) address ⇒ 3) ∷ user) (accepted m (Access right address) h .1) refl in
-      let p₁ = none-met (leb (memorySize m) address) 3 user (p₀ .1) refl in
+      let none = accepted m (Access right address) h .1 in
       record {
-        right-known = leb-true right 1 (not-false _ (p₀ .0));
+        right-known = leb-true right 1 (not-false _ (met (inPrivilegedMode m) 0 none));
         page = address / size;
-        page-counted = div-lt-iff-lt-mul (pow-pos (m .exponent)) .1 (leb-false (memorySize m) address (p₁ .0));
+        page-counted =
+            div-lt-iff-lt-mul (pow-pos (m .exponent)) .1 (leb-false (memorySize m) address (met (inPrivilegedMode m) 1 none));
         page-starts = div-mul-le-self address size;
         page-ends = lt-div-mul-add (pow-pos (m .exponent));
-        by-virtue = virtue (inPrivilegedMode m) refl (p₁ .1);
+        by-virtue = virtue (inPrivilegedMode m) refl none;
       }
     where
-      virtue : (b : Bool) → inPrivilegedMode m ≡ b → first (inside b) ≡ 0
+      met : (b : Bool) (k : ℕ) → first (checks b) ≡ 0 → metAt k (checks b) ≡ false
+      met true k none = unmet k (checks true) refl none
+      met false k none = unmet k (checks false) refl none
+
+      virtue : (b : Bool) → inPrivilegedMode m ≡ b → first (checks b) ≡ 0
           → (inPrivilegedMode m ≡ true) ⊎ ((inPrivilegedMode m ≡ false) × (m .registers .pending ≡ false) × (apart (address / size) ≡ false))
       virtue true e none = inl e
-      virtue false e none =
-          let p = none-met (m .registers .pending) 8 ((apart (address / size) ⇒ 9) ∷ []) none refl in
-          inr (e, p .0, none-met (apart (address / size)) 9 [] (p .1) refl .0)
+      virtue false e none = inr (e, met false 2 none, met false 3 none)
 
   pub allows : isSound m ≡ true → Allowed m right address → numberOf m (Access right address) ≡ 0
   unfolding checksOf accessChecks

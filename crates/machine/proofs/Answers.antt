@@ -1,11 +1,11 @@
 -- The shape of an answer: from a call's number and what the code changed to `callOf`, for each kind of change.
-use Prim.Native.Nat.{ℕ, _-_, _<_}
+use Prim.Native.Nat.{ℕ, zero, suc, _-_, _<_}
 use mathlib.Core.Path.{_≡_, refl, ap, sym, _∙_}
 use mathlib.Core.Bool.{Bool, true, false, not, _&&_}
 use mathlib.Core.List.{List, [], _∷_}
 use borrow.Author.Tests.{eqb-true, eqb-false, ne-eqb, ltb-true, not-true, not-false}
 use native.Mathlib.Omega.{arith}
-use lib.Dec.{eqb, ltb}
+use lib.Dec.{eqb}
 use lib.ListN.{getD, set}
 use lib.Seq.{set-getD}
 use Rattle.rules.specs.Registers.{withPending}
@@ -13,7 +13,7 @@ use Rattle.rules.specs.Domains.{prevailing, withBit, withoutBit}
 use Rattle.rules.specs.Refusals.{Check, _⇒_, first, pick}
 use Rattle.rules.specs.declared.registers.Registers.{Registers}
 use Rattle.machine.specs.Machine.{isSound, fieldOf, placeOf, withFields, withRegisters, withStack, withPrograms}
-use Rattle.machine.specs.Calls.{callOf, uncheckedOf, answerBy, ownNumberOf, changeCall, checksOf, changeChecks, effectOf, inUserMode, numberOf, after, violated}
+use Rattle.machine.specs.Calls.{callOf, uncheckedOf, answerBy, ownNumberOf, changeCall, checksOf, changeChecks, effectOf, numberOf, after, violated}
 use Rattle.machine.specs.declared.record.Machine.{Machine}
 use Rattle.machine.specs.declared.record.Program.{Program}
 use Rattle.machine.specs.declared.record.Page.{Page}
@@ -35,11 +35,24 @@ first-avoids k ((true ⇒ number) ∷ rest) h =
 first-avoids k ((false ⇒ number) ∷ rest) h =
     first-avoids k rest (and-both (not (eqb number k)) (avoids k rest) h .1)
 
+-- every number of a list of conditions refuses
+abbrev pub refuses : List Check → Bool
+refuses [] = true
+refuses ((met ⇒ number) ∷ rest) = not (eqb number 0) && refuses rest
+
+-- whether the condition at a place of a list is met
+abbrev pub metAt : ℕ → List Check → Bool
+metAt k [] = false
+metAt zero ((met ⇒ number) ∷ rest) = met
+metAt (suc k) ((met ⇒ number) ∷ rest) = metAt k rest
+
 -- a list of conditions that gives 0: none of them is met
-pub none-met : (met : Bool) (number : ℕ) (rest : List Check) → first ((met ⇒ number) ∷ rest) ≡ 0 → eqb number 0 ≡ false
-    → (met ≡ false) × (first rest ≡ 0)
-none-met true number rest h e = absurd (eqb-false number 0 e h)
-none-met false number rest h e = (refl, h)
+pub unmet : (k : ℕ) (checks : List Check) → refuses checks ≡ true → first checks ≡ 0 → metAt k checks ≡ false
+unmet k [] h none = refl
+unmet k ((true ⇒ number) ∷ rest) h none =
+    absurd (eqb-false number 0 (not-true (eqb number 0) (and-both (not (eqb number 0)) (refuses rest) h .0)) none)
+unmet zero ((false ⇒ number) ∷ rest) h none = refl
+unmet (suc k) ((false ⇒ number) ∷ rest) h none = unmet k rest (and-both (not (eqb number 0)) (refuses rest) h .1) none
 
 -- the machine after a call, by its three cases
 pub after-cases : (P : Machine → Type 0) (n : ℕ) (m effect : Machine) → (n ≡ 0 → P effect) → (n ≡ 9 → P (violated m)) → P m
@@ -72,9 +85,11 @@ own-not-nine m call never = eqb-false (ownNumberOf m call) 9 (first-avoids 9 (ch
 module _ (m : Machine) (call : Call) where
   -- an accepted call: the machine is sound, and no condition of the call is met
   pub accepted : numberOf m call ≡ 0 → (isSound m ≡ true) × (first (checksOf m call) ≡ 0)
-  accepted h =
-      let p = none-met (not (isSound m)) 1 (checksOf m call) h refl in
-      (not-false (isSound m) (p .0), p .1)
+  accepted = split (isSound m)
+    where
+      split : (b : Bool) → pick (not b) 1 (ownNumberOf m call) ≡ 0 → (b ≡ true) × (ownNumberOf m call ≡ 0)
+      split true h = (refl, h)
+      split false h = absurd (omega arith)
 
   -- a call is the one without the check for 1 behind one test for soundness: 1, and the machine as it was, where it is not sound
   pub call-checked : callOf m call ≡ pick (isSound m) (uncheckedOf m call) (record { number = 1; machine = m })
@@ -110,7 +125,7 @@ module _ (m : Machine) (call : Call) where
   pub done : {n : ℕ} {end : Machine} → n ≡ ownNumberOf m call → n ≡ 0 → end ≡ effectOf m call
       → _≡_ {A = Answered} (record { number = n; machine = end }) (uncheckedOf m call)
   unfolding uncheckedOf after
-  done {n} {end} number zero changed = rw (changed, ← number, zero)
+  done {n} {end} number none changed = rw (changed, ← number, none)
 
   pub kept : {n : ℕ} {end : Machine} → n ≡ ownNumberOf m call → avoids 9 (checksOf m call) ≡ true → (n ≡ 0 → ⊥) → end ≡ m
       → _≡_ {A = Answered} (record { number = n; machine = end }) (uncheckedOf m call)
@@ -214,31 +229,23 @@ pub with-programs : (m : Machine) {p p′ : ℕ} {t t′ : List Program} {s s′
     → withPrograms p t (withStack (m .depth) s (withRegisters r m)) ≡ withPrograms p′ t′ (withStack (m .depth) s′ (withRegisters r′ m))
 with-programs m e f g h = rw (e, f, g, h)
 
+-- a condition of an accepted call is not met
+pub accepted-unmet : (m : Machine) (call : Call) (k : ℕ) → refuses (checksOf m call) ≡ true → numberOf m call ≡ 0 → metAt k (checksOf m call) ≡ false
+accepted-unmet m call k refusing h = unmet k (checksOf m call) refusing (accepted m call h .1)
+
 -- what the numbers of the kernel's calls say where they are accepted
 pub entry-below : (m : Machine) → numberOf m Enter ≡ 0 → m .depth < 8
 unfolding checksOf
-entry-below m h =
-    let a = accepted m Enter h in
-    ltb-true (m .depth) 8 (not-false (ltb (m .depth) 8) (none-met (not (ltb (m .depth) 8)) 13 [] (a .1) refl .0))
+entry-below m h = ltb-true (m .depth) 8 (not-false _ (accepted-unmet m Enter 0 refl h))
 
 module _ (m : Machine) (program : ℕ) (h : numberOf m (Switch program) ≡ 0) where
-  switch-conditions : (inUserMode m ≡ false) × (not (eqb (m .depth) 1) ≡ false) × (not (ltb program (m .programs)) ≡ false)
-  unfolding checksOf
-  switch-conditions =
-      let c₃ = (not (ltb program (m .programs)) ⇒ 16) ∷ [] in
-      let c₂ = (not (eqb (m .depth) 1) ⇒ 15) ∷ c₃ in
-      let c₁ = (not (ltb (m .current) (m .programs)) ⇒ 10) ∷ c₂ in
-      let p = none-met (inUserMode m) 7 c₁ (accepted m (Switch program) h .1) refl in
-      let q = none-met (not (ltb (m .current) (m .programs))) 10 c₂ (p .1) refl in
-      let r = none-met (not (eqb (m .depth) 1)) 15 c₃ (q .1) refl in
-      let s = none-met (not (ltb program (m .programs))) 16 [] (r .1) refl in
-      (p .0, r .0, s .0)
-
   pub switch-named : program < m .programs
-  switch-named = ltb-true program (m .programs) (not-false (ltb program (m .programs)) (switch-conditions .2))
+  unfolding checksOf
+  switch-named = ltb-true program (m .programs) (not-false _ (accepted-unmet m (Switch program) 3 refl h))
 
   pub switch-depth : m .depth ≡ 1
-  switch-depth = eqb-true (m .depth) 1 (not-false (eqb (m .depth) 1) (switch-conditions .1))
+  unfolding checksOf
+  switch-depth = eqb-true (m .depth) 1 (not-false _ (accepted-unmet m (Switch program) 2 refl h))
 
 -- the places that accepted calls of a sound machine reach
 pub return-within : (m : Machine) → numberOf m Return ≡ 0 → m .depth - 1 < 8

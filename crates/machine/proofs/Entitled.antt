@@ -1,22 +1,20 @@
 -- When a grant or a revocation is accepted: exactly where none of its conditions is met, here one by one.
 use Prim.Native.Nat.{ℕ, _≤_, _<_}
 use mathlib.Core.Path.{_≡_, refl}
-use mathlib.Core.Bool.{Bool, true, false, not, true≢false}
-use mathlib.Core.List.{[], _∷_}
+use mathlib.Core.Bool.{Bool, true, false, true≢false}
 use borrow.Author.Tests.{ltb-true, leb-true, leb-false, le-leb, lt-leb, lt-ltb, not-false}
-use lib.Dec.{ltb}
 use Rattle.rules.specs.Registers.{localContext}
-use Rattle.rules.specs.Domains.{holds, isDomain, prevailing, isOutside, isNotLower}
-use Rattle.rules.specs.Refusals.{_⇒_, pick}
+use Rattle.rules.specs.Domains.{holds, prevailing, isOutside, isNotLower}
+use Rattle.rules.specs.Refusals.{pick}
 use Rattle.rules.specs.declared.domains.Prevailing.{Prevailing}
 use Rattle.rules.specs.declared.domains.Prevailing.the-variants.{Absent, At}
 use Rattle.machine.specs.Machine.{isSound, fieldOf}
-use Rattle.machine.specs.Calls.{changeChecks, isRight, inPrivilegedMode, numberOf}
+use Rattle.machine.specs.Calls.{changeChecks, inPrivilegedMode, numberOf}
 use Rattle.machine.specs.declared.record.Machine.{Machine}
 use Rattle.machine.specs.declared.record.Page.{Page}
 use Rattle.machine.specs.declared.record.Domain.{Domain}
 use Rattle.machine.specs.declared.record.Call.the-variants.{Grant, Revoke}
-use Rattle.machine.proofs.Answers.{none-met, accepted, change-checks}
+use Rattle.machine.proofs.Answers.{accepted, metAt, unmet, change-checks}
 
 -- a grant or a revocation is accepted by virtue of the prevailing domain of the whole field alone: it is there, the local context has
 -- it, and it is of higher level than the domain that is named
@@ -36,23 +34,10 @@ module _ (m : Machine) (granting : Bool) (right : ℕ) (page : Page) (s : Domain
   unfolding changeChecks
   entitled h =
       let field = fieldOf m right (page .0) in
-      let local = localContext (m .registers) in
-      let c₆ = (isNotLower (prevailing field) (s .0) ⇒ 12) ∷ [] in
-      let c₅ = (isOutside (prevailing field) local ⇒ 11) ∷ c₆ in
-      let c₄ = (m .registers .pending ⇒ 8) ∷ c₅ in
-      let c₃ = (inPrivilegedMode m ⇒ 6) ∷ c₄ in
-      let c₂ = (not (isDomain (s .0)) ⇒ 5) ∷ c₃ in
-      let c₁ = (not (ltb (page .0) (m .pages)) ⇒ 4) ∷ c₂ in
       let all = rw (change-checks m right page s granting) at (accepted m _ h .1) in
-      let p₀ = none-met (not (isRight right)) 2 c₁ all refl in
-      let p₁ = none-met (not (ltb (page .0) (m .pages))) 4 c₂ (p₀ .1) refl in
-      let p₂ = none-met (not (isDomain (s .0))) 5 c₃ (p₁ .1) refl in
-      let p₃ = none-met (inPrivilegedMode m) 6 c₄ (p₂ .1) refl in
-      let p₄ = none-met (m .registers .pending) 8 c₅ (p₃ .1) refl in
-      let p₅ = none-met (isOutside (prevailing field) local) 11 c₆ (p₄ .1) refl in
-      let p₆ = none-met (isNotLower (prevailing field) (s .0)) 12 [] (p₅ .1) refl in
-      by-level (leb-true right 1 (not-false _ (p₀ .0))) (ltb-true (page .0) (m .pages) (not-false _ (p₁ .0)))
-      (ltb-true (s .0) 16 (not-false _ (p₂ .0))) (p₃ .0) (p₄ .0) (prevailing field) refl (p₅ .0) (p₆ .0)
+      let met : (k : ℕ) → metAt k (changeChecks m right page s (prevailing field)) ≡ false = λ k. unmet k (changeChecks m right page s (prevailing field)) refl all in
+      by-level (leb-true right 1 (not-false _ (met 0))) (ltb-true (page .0) (m .pages) (not-false _ (met 1)))
+      (ltb-true (s .0) 16 (not-false _ (met 2))) (met 3) (met 4) (prevailing field) refl (met 5) (met 6)
     where
       by-level : right ≤ 1 → page .0 < m .pages → s .0 < 16 → inPrivilegedMode m ≡ false → m .registers .pending ≡ false
           → (v : Prevailing) → prevailing (fieldOf m right (page .0)) ≡ v

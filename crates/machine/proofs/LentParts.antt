@@ -5,7 +5,7 @@ use mathlib.Core.Path.{_≡_, refl, ap, sym, _∙_}
 use mathlib.Core.Bool.{Bool, true}
 use mathlib.Core.List.{List}
 use Rattle.machine.specs.Machine.{withFields, withStack, withLent}
-use Rattle.machine.specs.Calls.{uncheckedOf, ownNumberOf, changeCall, checksOf, effectOf, after, keeping, violated}
+use Rattle.machine.specs.Calls.{uncheckedOf, ownNumberOf, changeCall, checksOf, effectOf, keeping, violated}
 use Rattle.machine.specs.declared.record.Machine.{Machine}
 use Rattle.machine.specs.declared.record.Page.{Page}
 use Rattle.machine.specs.declared.record.Domain.{Domain}

@@ -4,6 +4,7 @@ pub mod Answers
 pub mod LentParts
 pub mod Allowed
 pub mod Entitled
+pub mod Told
 pub mod Laws
 pub mod Readings
 pub mod Cases

@@ -102,16 +102,6 @@ facts-sound m s =
       s .calm,
     )
 
--- the number of a call on a sound machine may be worked out from a quantity that is 0 for an exponent out of range
-pub where-sound : (m : Machine) (number : ℕ → ℕ) (x : ℕ)
-    → pick (not (isSound m)) 1 (number (pick (leb (m .exponent) 12) x 0)) ≡ pick (not (isSound m)) 1 (number x)
-where-sound m number x = split (isSound m) refl
-  where
-    split : (b : Bool) → isSound m ≡ b
-        → pick (not b) 1 (number (pick (leb (m .exponent) 12) x 0)) ≡ pick (not b) 1 (number x)
-    split true e = rw (le-leb (m .exponent) 12 (sound-facts m e .exponent-most))
-    split false e = refl
-
 -- what there is to show for the soundness of a machine of the same shape as a sound one
 pub moved-sound : (m end : Machine) → (end .pages ≡ m .pages) × (end .exponent ≡ m .exponent) × (end .programs ≡ m .programs)
     → isSound m ≡ true → end .depth ≤ 8 → end .current < end .programs
