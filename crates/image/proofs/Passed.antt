@@ -1,14 +1,14 @@
 -- What an image that nothing refuses says of its bytes, as equations and bounds, and back.
-use Prim.Native.Nat.{ℕ, zero, suc, _+_, _*_, _^_, _≤_}
+use Prim.Native.Nat.{ℕ, _+_, _*_, _^_, _≤_}
 use mathlib.Core.Path.{_≡_, refl}
-use mathlib.Core.Bool.{Bool, true, false, _&&_}
-use mathlib.Core.List.{List, [], _∷_, foldl}
+use mathlib.Core.Bool.{true, false}
+use mathlib.Core.List.{List}
 use borrow.Author.Tests.{leb-true, eqb-true, le-leb, eq-eqb, not-false}
 use native.Mathlib.Omega.{arith}
-use lib.ListN.{length, getD}
+use lib.ListN.{length}
 use Rattle.rules.specs.Refusals.{first}
 use Rattle.machine.proofs.Answers.{metAt, unmet}
-use Rattle.machine.proofs.Sound.{and-both}
+use Rattle.machine.proofs.Sound.{each}
 use Rattle.image.specs.Load.{kindAt, zeroAt, offsetAt, lengthAt, pageCount, pageExponent, programCount, shapeZero, modesOf, every, areModes, lengthTests, kindTests, shapeEntryTests, shapeTests, bodyTests, loadChecks}
 
 -- the facts of an image that nothing refuses
@@ -35,16 +35,6 @@ pub record Passed (s : List ℕ) : Type 0 where
   pub length-2 : lengthAt s 2 ≡ 5 * programCount s
   pub ends : length s ≡ 22 + 4 * pageCount s + 5 * programCount s
   pub modes : areModes (modesOf s) ≡ true
-
--- each of some tests that all hold, and what was joined before them
-joined : (a : Bool) (tests : List Bool) → foldl _&&_ a tests ≡ true → a ≡ true
-joined a [] h = h
-joined a (b ∷ rest) h = and-both a b (joined (a && b) rest h) .0
-
-each : (a : Bool) (tests : List Bool) → foldl _&&_ a tests ≡ true → (i : ℕ) → getD tests i true ≡ true
-each a [] h i = refl
-each a (b ∷ rest) h zero = and-both a b (joined (a && b) rest h) .1
-each a (b ∷ rest) h (suc i) = each (a && b) rest h i
 
 module _ (s : List ℕ) where
   -- the conditions of a list of which none is met

@@ -1,9 +1,11 @@
 -- Soundness as numbers: what the tests of `isSound` say of a machine, and back.
-use Prim.Native.Nat.{ℕ, _≤_, _<_}
+use Prim.Native.Nat.{ℕ, zero, suc, _≤_, _<_}
 use mathlib.Core.Path.{_≡_, refl}
 use mathlib.Core.Bool.{Bool, true, false, not, _&&_}
+use mathlib.Core.List.{List, [], _∷_, foldl}
 use borrow.Author.Tests.{leb-true, ltb-true, not-true, le-leb, lt-ltb}
 use lib.Dec.{leb, ltb}
+use lib.ListN.{getD}
 use Rattle.rules.specs.Registers.{isPrivileged}
 use Rattle.rules.specs.Refusals.{pick}
 use Rattle.machine.specs.Machine.{isSound, rangesHold, memorySize}
@@ -13,37 +15,20 @@ pub and-both : (a b : Bool) → a && b ≡ true → (a ≡ true) × (b ≡ true)
 and-both true b h = (refl, h)
 and-both false b h = (h, cc)
 
--- each of seven tests that all hold
-seven : (a b c d e f g : Bool) → a && b && c && d && e && f && g ≡ true
-    → (a ≡ true) × (b ≡ true) × (c ≡ true) × (d ≡ true) × (e ≡ true) × (f ≡ true) × (g ≡ true)
-seven a b c d e f g h =
-    let h₆ = and-both (a && b && c && d && e && f) g h .0 in
-    let h₅ = and-both (a && b && c && d && e) f h₆ .0 in
-    let h₄ = and-both (a && b && c && d) e h₅ .0 in
-    let h₃ = and-both (a && b && c) d h₄ .0 in
-    let h₂ = and-both (a && b) c h₃ .0 in (
-      and-both a b h₂ .0,
-      and-both a b h₂ .1,
-      and-both (a && b) c h₃ .1,
-      and-both (a && b && c) d h₄ .1,
-      and-both (a && b && c && d) e h₅ .1,
-      and-both (a && b && c && d && e) f h₆ .1,
-      and-both (a && b && c && d && e && f) g h .1,
-    )
+-- each of a list of tests that all hold
+joined : (a : Bool) (tests : List Bool) → foldl _&&_ a tests ≡ true → a ≡ true
+joined a [] h = h
+joined a (b ∷ rest) h = and-both a b (joined (a && b) rest h) .0
 
-four : (a b c d : Bool) → a && b && c && d ≡ true → (a ≡ true) × (b ≡ true) × (c ≡ true) × (d ≡ true)
-four a b c d h =
-    let h₃ = and-both (a && b && c) d h .0 in
-    let h₂ = and-both (a && b) c h₃ .0 in
-    (and-both a b h₂ .0, and-both a b h₂ .1, and-both (a && b) c h₃ .1, and-both (a && b && c) d h .1)
+pub each : (a : Bool) (tests : List Bool) → foldl _&&_ a tests ≡ true → (i : ℕ) → getD tests i true ≡ true
+each a [] h i = refl
+each a (b ∷ rest) h zero = and-both a b (joined (a && b) rest h) .1
+each a (b ∷ rest) h (suc i) = each (a && b) rest h i
 
-ranges : (m : Machine) → rangesHold m ≡ true
-    → (leb 1 (m .pages) ≡ true) × (leb (m .pages) 128 ≡ true) × (leb 5 (m .exponent) ≡ true)
-    × (leb (m .exponent) 12 ≡ true) × (leb (m .depth) 8 ≡ true) × (leb 1 (m .programs) ≡ true)
-    × (leb (m .programs) 8 ≡ true)
-ranges m h =
-    seven (leb 1 (m .pages)) (leb (m .pages) 128) (leb 5 (m .exponent)) (leb (m .exponent) 12) (leb (m .depth) 8)
-    (leb 1 (m .programs)) (leb (m .programs) 8) h
+ranges : (m : Machine) → List Bool
+ranges m =
+    leb 1 (m .pages) ∷ leb (m .pages) 128 ∷ leb 5 (m .exponent) ∷ leb (m .exponent) 12 ∷ leb (m .depth) 8 ∷ leb 1 (m .programs)
+    ∷ leb (m .programs) 8 ∷ []
 
 -- where the ranges hold, a memory size that is 0 for an exponent out of range is the memory size
 guarded : (r b : Bool) (x : ℕ) → (r ≡ true → b ≡ true) → r && leb (pick b x 0) 65536 ≡ r && leb x 65536
@@ -52,7 +37,8 @@ guarded false b x h = refl
 
 pub memory-guarded : (m : Machine)
     → rangesHold m && leb (pick (leb (m .exponent) 12) (memorySize m) 0) 65536 ≡ rangesHold m && leb (memorySize m) 65536
-memory-guarded m = guarded (rangesHold m) (leb (m .exponent) 12) (memorySize m) (λ h. ranges m h .3)
+unfolding ranges
+memory-guarded m = guarded (rangesHold m) (leb (m .exponent) 12) (memorySize m) (λ h. each true (ranges m) h 3)
 
 -- the facts of a sound machine
 pub record Sound (m : Machine) : Type 0 where
@@ -68,22 +54,22 @@ pub record Sound (m : Machine) : Type 0 where
   pub calm : m .registers .pending && isPrivileged (m .registers .mode) ≡ false
 
 pub sound-facts : (m : Machine) → isSound m ≡ true → Sound m
-unfolding isSound
+unfolding isSound ranges
 sound-facts m h =
     let calm = m .registers .pending && isPrivileged (m .registers .mode) in
-    let s = four (rangesHold m) (leb (memorySize m) 65536) (ltb (m .current) (m .programs)) (not calm) h in
-    let r = ranges m (s .0) in
+    let s = each true (rangesHold m ∷ leb (memorySize m) 65536 ∷ ltb (m .current) (m .programs) ∷ not calm ∷ []) h in
+    let r = each true (ranges m) (s 0) in
     record {
-      pages-least = leb-true _ _ (r .0);
-      pages-most = leb-true _ _ (r .1);
-      exponent-least = leb-true _ _ (r .2);
-      exponent-most = leb-true _ _ (r .3);
-      depth-most = leb-true _ _ (r .4);
-      programs-least = leb-true _ _ (r .5);
-      programs-most = leb-true _ _ (r .6);
-      memory-most = leb-true _ _ (s .1);
-      current-below = ltb-true _ _ (s .2);
-      calm = not-true calm (s .3);
+      pages-least = leb-true _ _ (r 0);
+      pages-most = leb-true _ _ (r 1);
+      exponent-least = leb-true _ _ (r 2);
+      exponent-most = leb-true _ _ (r 3);
+      depth-most = leb-true _ _ (r 4);
+      programs-least = leb-true _ _ (r 5);
+      programs-most = leb-true _ _ (r 6);
+      memory-most = leb-true _ _ (s 1);
+      current-below = ltb-true _ _ (s 2);
+      calm = not-true calm (s 3);
     }
 
 pub facts-sound : (m : Machine) → Sound m → isSound m ≡ true

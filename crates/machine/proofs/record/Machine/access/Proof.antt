@@ -6,14 +6,10 @@ use borrow.Author.Needs.{needs}
 use Rattle.machine.proofs.record.Machine.access.Statement.{statement}
 use Rattle.machine.proofs.record.Machine.access.Tie as tie
 
-returns : tie.Need-returns
-returns c = unsound-answers _ _ (c .before .sound .ensures) (c .if1 .taken)
-
 returns-2 : tie.Need-returns-2
 returns-2 c =
-    let testing : tie.After-sound = (search) in
-    let going : tie.Else1 = (search) in
-    sound-answers _ _ (testing .sound .ensures) (going .if1 .left) (c .access-lent .ensures ∙ access-own _ _ _)
+    let testing : tie.Else1 = (search) in
+    sound-answers _ _ (testing .before .sound .ensures) (testing .if1 .left) (c .access-lent .ensures ∙ access-own _ _ _)
 
 pub access-spec : {M : Type 1} → statement M
-access-spec = tie.close (tie.spec (λ c κs. search needs) returns (λ c. search needs) (λ c κs. search needs) returns-2)
+access-spec = tie.close (tie.spec (λ c κs. search needs) (λ c. unsound-answers _ _ (c .before .sound .ensures) (c .if1 .taken)) (λ c. search needs) (λ c κs. search needs) returns-2)

@@ -8,17 +8,14 @@ use borrow.Author.Needs.{needs}
 use Rattle.machine.proofs.record.Machine.enter.Statement.{statement}
 use Rattle.machine.proofs.record.Machine.enter.Tie as tie
 
-returns : tie.Need-returns
-returns c = unsound-answers _ _ (c .before .sound .ensures) (c .if1 .taken)
-
 returns-2 : tie.Need-returns-2
 unfolding effectOf entered
 returns-2 c =
-    let testing : tie.After-sound = (search) in
-    let going : tie.Else1 = (search) in
-    let made : tie.After-enter-lent = (search) in
-    sound-answers _ _ (testing .sound .ensures) (going .if1 .left)
-    (c .with-saved .ensures ∙ rw (made .enter-lent .ensures .0, made .enter-lent .ensures .1) (stack-own _ Enter refl))
+    let testing : tie.Else1 = (search) in
+    let lending : tie.After-enter-lent = (search) in
+    let made = lending .enter-lent .ensures in
+    sound-answers _ _ (testing .before .sound .ensures) (testing .if1 .left)
+    (c .with-saved .ensures ∙ rw (made .0, made .1) (stack-own _ Enter refl))
 
 pub enter-spec : {M : Type 1} → statement M
-enter-spec = tie.close (tie.spec (λ c κs. search needs) returns (λ c. search needs) (λ c κs. search needs) (λ c κs. search needs) returns-2)
+enter-spec = tie.close (tie.spec (λ c κs. search needs) (λ c. unsound-answers _ _ (c .before .sound .ensures) (c .if1 .taken)) (λ c. search needs) (λ c κs. search needs) (λ c κs. search needs) returns-2)

@@ -8,17 +8,14 @@ use borrow.Author.Needs.{needs}
 use Rattle.machine.proofs.record.Machine.leave.Statement.{statement}
 use Rattle.machine.proofs.record.Machine.leave.Tie as tie
 
-returns : tie.Need-returns
-returns c = unsound-answers _ _ (c .before .sound .ensures) (c .if1 .taken)
-
 returns-2 : tie.Need-returns-2
 unfolding effectOf returned
 returns-2 c =
-    let testing : tie.After-sound = (search) in
-    let going : tie.Else1 = (search) in
-    let made : tie.After-leave-lent = (search) in
-    sound-answers _ _ (testing .sound .ensures) (going .if1 .left)
-    (c .with-saved .ensures ∙ rw (made .leave-lent .ensures .0, made .leave-lent .ensures .1) (stack-own _ Return refl))
+    let testing : tie.Else1 = (search) in
+    let lending : tie.After-leave-lent = (search) in
+    let made = lending .leave-lent .ensures in
+    sound-answers _ _ (testing .before .sound .ensures) (testing .if1 .left)
+    (c .with-saved .ensures ∙ rw (made .0, made .1) (stack-own _ Return refl))
 
 pub leave-spec : {M : Type 1} → statement M
-leave-spec = tie.close (tie.spec (λ c κs. search needs) returns (λ c. search needs) (λ c κs. search needs) (λ c κs. search needs) returns-2)
+leave-spec = tie.close (tie.spec (λ c κs. search needs) (λ c. unsound-answers _ _ (c .before .sound .ensures) (c .if1 .taken)) (λ c. search needs) (λ c κs. search needs) (λ c κs. search needs) returns-2)

@@ -4,14 +4,6 @@ use borrow.Author.Needs.{needs}
 use Rattle.machine.proofs.record.Machine.store_mode.Statement.{statement}
 use Rattle.machine.proofs.record.Machine.store_mode.Tie as tie
 
-returns : tie.Need-returns
-returns c = unsound-answers _ _ (c .before .sound .ensures) (c .if1 .taken)
-
-returns-2 : tie.Need-returns-2
-returns-2 c =
-    let testing : tie.After-sound = (search) in
-    let going : tie.Else1 = (search) in
-    sound-answers _ _ (testing .sound .ensures) (going .if1 .left) (c .store-mode-unchecked .ensures)
-
 pub store-mode-spec : {M : Type 1} → statement M
-store-mode-spec = tie.close (tie.spec (λ c κs. search needs) returns (λ c κs. search needs) returns-2)
+store-mode-spec = tie.close (tie.spec (λ c κs. search needs) (λ c. unsound-answers _ _ (c .before .sound .ensures) (c .if1 .taken)) (λ c κs. search needs)
+    (λ c. sound-answers _ _ (c .before .before .sound .ensures) (c .before .if1 .left) (c .store-mode-unchecked .ensures)))
