@@ -2,12 +2,11 @@
 #
 #   make run     builds pagerun, all crates below it proved first, and runs the sample node   (rt)
 #   make lib     builds the bench's static library, proved first, where a source has changed  (rt)
-#   make prove   proves every crate from nothing: no must-fail edits, no tests                (rt)
-#   make times   the same, one crate at a time, and the time that each takes                  (rt)
-#   make test    the gate: proofs from nothing, must-fail edits, programs, tests              (rt, bash, gcc, cargo, python3)
+#   make prove   removes target/ and proves every crate; no must-fail edits, no tests         (rt)
+#   make times   the same, one crate at a time, and prints the time that each takes           (rt)
+#   make test    the gate: removes target/, proofs, must-fail edits, programs, tests          (rt, bash, gcc, cargo, python3)
 #   make speed   compares the static library with a plain C program                           (rt, gcc, valgrind)
-#
-# prove, times and test remove target/ first.
+
 .PHONY: help run lib prove times test speed
 .NOTPARALLEL:
 

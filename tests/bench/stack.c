@@ -9,6 +9,8 @@
  * Input: what the function is to run. Output: the bytes of both calls. The exit
  * status is 1 if one took more than BENCH_STACK_ENOUGH.
  *
+ * Build: gcc -std=c11 -O2 -I include tests/bench/stack.c LIB_DIR/librun.a
+ *
  * A memory checker would take the look at a stack that is no longer in use for
  * a fault, so this is not part of bench_test.c.
  */
