@@ -14,8 +14,8 @@
  *   and B; parts that a kind does not use are ignored. A remainder of 1 to 5
  *   bytes after the last whole record is passed over. Where the image length
  *   is more than the input still holds, the bytes that are there are the image
- *   (it may load), and no call follows. An input under 2 bytes counts as an
- *   empty image, which is refused with 20.
+ *   (it may load), and no call follows. With fewer than 2 bytes the image is
+ *   empty, and refused with 20.
  *
  * THE IMAGE, as a picture; docs/RULES.md, section 5, has it in full. A node
  * has P pages of 2 to the e bytes and N programs; P is 1 to 128, e 5 to 12,
@@ -36,9 +36,9 @@
  *   Bit s of a field, a context or a mask is domain s. The mode is 0 for user
  *   and 1 for privileged. A loaded machine runs program 0.
  *
- * THE ANSWERS are one byte each, in call order, the load's first. They are the
- * BENCH_ANSWER_.. constants below: a call has one of 0 to 18, the load has 0
- * or one of 20 to 25, and nothing has 19. 1 and 10 do not occur in a run: a
+ * THE ANSWERS are bytes, first the load's, then each call's in turn. They are
+ * the BENCH_ANSWER_.. constants below: a call has one of 0 to 18, the load has
+ * 0 or one of 20 to 25, and nothing has 19. 1 and 10 do not occur in a run: a
  * loaded machine is sound, its current program has an entry, and every call
  * leaves it so.
  *
@@ -164,11 +164,11 @@ enum {
 
     /* the machine is not sound; not in a run */
     BENCH_ANSWER_NOT_SOUND = 1,
-    /* the right is neither 0 nor 1 */
+    /* the right is above 1 */
     BENCH_ANSWER_BAD_RIGHT = 2,
-    /* the address is at or above page count * page size */
+    /* the address is outside memory, which has page count * page size bytes */
     BENCH_ANSWER_BAD_ADDRESS = 3,
-    /* the page is not below the page count */
+    /* there is no such page: the page count or above */
     BENCH_ANSWER_BAD_PAGE = 4,
     /* the domain is above 15 */
     BENCH_ANSWER_BAD_DOMAIN = 5,
@@ -181,7 +181,7 @@ enum {
     /* violation: the field of the right and the local context, which is global
        context AND mask, share no domain; an interrupt is now pending */
     BENCH_ANSWER_VIOLATION = 9,
-    /* the current program has no entry in the table; not in a run */
+    /* the table has no entry for the current program; not in a run */
     BENCH_ANSWER_NO_TABLE_ENTRY = 10,
     /* the field has no prevailing domain, or the local context lacks it */
     BENCH_ANSWER_NOT_PREVAILING = 11,
@@ -194,7 +194,7 @@ enum {
     BENCH_ANSWER_STACK_EMPTY = 14,
     /* switch at a depth other than 1 */
     BENCH_ANSWER_DEPTH_NOT_ONE = 15,
-    /* switch: the program is not below the program count */
+    /* switch: there is no such program: the program count or above */
     BENCH_ANSWER_NO_PROGRAM = 16,
     /* kernel store: the mode is neither 0 nor 1 */
     BENCH_ANSWER_BAD_MODE = 17,
@@ -203,16 +203,17 @@ enum {
 
     /* The image is refused. */
 
-    /* it has fewer than 31 or more than 574 bytes */
+    /* it is shorter than 31 or longer than 574 bytes */
     BENCH_ANSWER_IMAGE_LENGTH = 20,
     /* contents: the kind or the zero byte of an entry is wrong */
     BENCH_ANSWER_IMAGE_KIND = 21,
     /* contents: the shape's offset is not 18 or its length is not 4 */
     BENCH_ANSWER_IMAGE_SHAPE_ENTRY = 22,
-    /* a shape byte is out of range, or the memory is above 65,536 bytes */
+    /* shape: P, e, N or the zero byte is out of range, or there is too much
+       memory, above 65,536 bytes */
     BENCH_ANSWER_IMAGE_SHAPE = 23,
-    /* contents: another offset or length is wrong, or the image goes on after
-       the programs or stops before */
+    /* contents: offset or length of pages or programs is wrong, or the image
+       does not stop after the last program */
     BENCH_ANSWER_IMAGE_BODY_ENTRY = 24,
     /* a program's mode is neither 0 nor 1 */
     BENCH_ANSWER_IMAGE_MODE = 25
