@@ -10,59 +10,37 @@
  *   the image, that many bytes; fewer if the input ends before
  *   6 bytes for each call: kind, right, A (2 bytes), B (2 bytes)
  *
- *   kind  1  access, the right (0 READ, 1 WRITE), address A * 65,536 + B
- *         2  grant, the right, page A, domain B
- *         3  revoke, the right, page A, domain B
- *         4  mask command, the mask B
- *         5  interrupt entry
- *         6  return
- *         7  switch to program B
- *         8  kernel store: the field of the right of page A becomes B
- *         9  kernel store: the global context becomes B
- *        10  kernel store: the mask becomes B
- *        11  kernel store: the mode becomes B (0 user, 1 privileged)
+ *   The BENCH_KIND_.. constants below say what each kind makes of the right, A
+ *   and B; parts that a kind does not use are ignored. A remainder of 1 to 5
+ *   bytes after the last whole record is passed over. Where the image length
+ *   is more than the input still holds, the bytes that are there are the image
+ *   (it may load), and no call follows. With fewer than 2 bytes the image is
+ *   empty, and refused with 20.
  *
- *   Parts that a kind does not use are ignored. A remainder of 1 to 5 bytes
- *   after the last whole record is passed over. Where the image length is
- *   more than the input still holds, the bytes that are there are the image
- *   (it may load), and no call follows. An input under 2 bytes counts as an
- *   empty image, which is refused with 20.
+ * THE IMAGE, as a picture; docs/RULES.md, section 5, has it in full. A node
+ * has P pages of 2 to the e bytes and N programs; P is 1 to 128, e 5 to 12,
+ * N 1 to 8, and the whole memory at most 65,536 bytes.
  *
- * THE ANSWERS, one byte each, in call order, the load's first:
+ *   from byte   what                                        sizes in bytes
  *
- *   0  done or allowed
+ *           0   contents   kind 1, 0, offset 18, length 4          1 1 2 2
+ *           6              kind 2, 0, offset 22, length 4*P        1 1 2 2
+ *          12              kind 3, 0, offset 22+4*P, length 5*N    1 1 2 2
+ *          18   shape      P, e, N, 0                              1 1 1 1
+ *          22   pages      READ field, WRITE field                     2 2
+ *                          .. these two for each page
+ *      22+4*P   programs   global context, mask, mode                2 2 1
+ *                          .. these three for each program
+ *  22+4*P+5*N   the image ends here
  *
- *   Calls that are refused, or an access that is a violation:
- *   1  the machine is not sound
- *   2  the right is neither 0 nor 1
- *   3  the address is at or above page count * page size
- *   4  the page is not below the page count
- *   5  the domain is above 15
- *   6  the command was given in privileged mode
- *   7  the call was made in user mode
- *   8  the pending flag is set
- *   9  a violation: the field for the right AND the local context is zero;
- *      the pending flag is set by it
- *  10  the current program has no entry in the table
- *  11  the prevailing domain is absent or outside the local context
- *  12  the domain is not greater than the prevailing domain
- *  13  an interrupt entry at depth 8
- *  14  a return at depth 0
- *  15  a switch where the depth is not 1
- *  16  the named program is not below the program count
- *  17  the mode is a number other than 0 and 1
- *  18  the record is none of the eleven calls
+ *   Bit s of a field, a context or a mask is domain s. The mode is 0 for user
+ *   and 1 for privileged. A loaded machine runs program 0.
  *
- *   1 and 10 do not occur in a run: a loaded machine is sound, its current
- *   program has an entry, and every call leaves it so.
- *
- *   Images that are refused:
- *  20  it has fewer than 31 or more than 574 bytes
- *  21  an entry's kind or zero byte is wrong
- *  22  the shape's offset or length is wrong
- *  23  a shape byte is out of range or the memory exceeds 65,536 bytes
- *  24  another offset or length is wrong, or the image does not end there
- *  25  a mode byte is above 1
+ * THE ANSWERS are bytes, first the load's, then each call's in turn. They are
+ * the BENCH_ANSWER_.. constants below: a call has one of 0 to 18, the load has
+ * 0 or one of 20 to 25, and nothing has 19. 1 and 10 do not occur in a run: a
+ * loaded machine is sound, its current program has an entry, and every call
+ * leaves it so.
  *
  * HOW MANY ANSWERS an input of n bytes has:
  *
@@ -88,12 +66,30 @@
  * pointer, but it must not be null, so pass the address of any byte. Until the
  * function returns, no other thread writes either buffer or reads the answer
  * buffer. Threads that each have buffers of their own may call at one time.
+ * The stack has BENCH_STACK_ENOUGH bytes left.
+ *
+ * THE LIBRARY, target/staticlib/librun.a, is for x86-64 Linux. It defines
+ * bench_run and nothing else, and takes two functions from whoever links it,
+ * memcpy and memset (nm lists no other undefined symbol). Every C library has
+ * them; a program without one has to bring its own.
  */
 #ifndef BENCH_H
 #define BENCH_H
 
 #include <stddef.h>
 #include <stdint.h>
+
+/*
+ * The version of this header, so that a program can ask which one it is
+ * compiled with. The major number grows where a program that was right may
+ * have to change: other answers to the calls listed here, another image,
+ * another duty of the caller. The minor number grows where something is only
+ * added: a record that was answered by 18 becomes a call, or there is one more
+ * function or constant. The library carries no number, so take the two from
+ * the same checkout.
+ */
+#define BENCH_VERSION_MAJOR 1
+#define BENCH_VERSION_MINOR 0
 
 /* The longest input that is taken, in bytes. */
 #define BENCH_INPUT_MOST 32768
@@ -104,6 +100,124 @@
  * 1 + (32,768 - 2 - 31) / 6, rounded down.
  */
 #define BENCH_ANSWERS_MOST 5456
+
+/*
+ * How much stack a call of bench_run should find free, in bytes. It is more
+ * than twice the most that was measured:
+ *
+ * The function itself takes 1,840: the return address, six registers and
+ * 1,784 bytes of locals, as its disassembly shows (objdump -d). It calls only
+ * memcpy and memset, which puts 8 more there and what these two take. On a
+ * stack filled with a pattern a call took 1,848, with glibc 2.36. Where a
+ * program is linked so that memcpy and memset are looked up when they are
+ * first called, the first call took 3,384 to 3,432: the system's loader then
+ * works on the same stack and saves the vector registers there (32 bytes each
+ * on that processor; it takes more where they are wider).
+ * tests/bench/stack.c measures both calls again.
+ */
+#define BENCH_STACK_ENOUGH 8192
+
+/* The right of a record: what the access is for, or which field is meant. */
+enum {
+    BENCH_RIGHT_READ = 0,
+    BENCH_RIGHT_WRITE = 1
+};
+
+/* The mode of a program in an image, and of a kernel store of the mode. */
+enum {
+    BENCH_MODE_USER = 0,
+    BENCH_MODE_PRIVILEGED = 1
+};
+
+/* The kinds of call, and what each makes of the record's right, A and B. */
+enum {
+    /* access for the right, address A * 65,536 + B */
+    BENCH_KIND_ACCESS = 1,
+    /* grant the right to page A to domain B */
+    BENCH_KIND_GRANT = 2,
+    /* revoke the right to page A from domain B */
+    BENCH_KIND_REVOKE = 3,
+    /* mask command: the mask becomes B */
+    BENCH_KIND_MASK = 4,
+    /* interrupt entry */
+    BENCH_KIND_ENTRY = 5,
+    /* return from an interrupt */
+    BENCH_KIND_RETURN = 6,
+    /* switch to program B */
+    BENCH_KIND_SWITCH = 7,
+    /* kernel store: the field of the right to page A becomes B */
+    BENCH_KIND_STORE_FIELD = 8,
+    /* kernel store: the global context becomes B */
+    BENCH_KIND_STORE_CONTEXT = 9,
+    /* kernel store: the mask becomes B */
+    BENCH_KIND_STORE_MASK = 10,
+    /* kernel store: the mode becomes B, a BENCH_MODE_.. */
+    BENCH_KIND_STORE_MODE = 11
+};
+
+/* The answers. */
+enum {
+    /* done; an access: allowed */
+    BENCH_ANSWER_DONE = 0,
+
+    /* A call is refused, or an access is a violation. */
+
+    /* the machine is not sound; not in a run */
+    BENCH_ANSWER_NOT_SOUND = 1,
+    /* the right is above 1 */
+    BENCH_ANSWER_BAD_RIGHT = 2,
+    /* the address is outside memory, which has page count * page size bytes */
+    BENCH_ANSWER_BAD_ADDRESS = 3,
+    /* there is no such page: the page count or above */
+    BENCH_ANSWER_BAD_PAGE = 4,
+    /* the domain is above 15 */
+    BENCH_ANSWER_BAD_DOMAIN = 5,
+    /* grant, revoke or mask command in privileged mode */
+    BENCH_ANSWER_IN_PRIVILEGED = 6,
+    /* return, switch or kernel store in user mode */
+    BENCH_ANSWER_IN_USER = 7,
+    /* an interrupt is pending: no access and no command before its entry */
+    BENCH_ANSWER_PENDING = 8,
+    /* violation: the field of the right and the local context, which is global
+       context AND mask, share no domain; an interrupt is now pending */
+    BENCH_ANSWER_VIOLATION = 9,
+    /* the table has no entry for the current program; not in a run */
+    BENCH_ANSWER_NO_TABLE_ENTRY = 10,
+    /* the field has no prevailing domain, or the local context lacks it */
+    BENCH_ANSWER_NOT_PREVAILING = 11,
+    /* the domain is not of lower level (a greater number) than the
+       prevailing domain */
+    BENCH_ANSWER_NOT_LOWER = 12,
+    /* interrupt entry at depth 8: no room for another saved mode */
+    BENCH_ANSWER_STACK_FULL = 13,
+    /* return at depth 0: no saved mode */
+    BENCH_ANSWER_STACK_EMPTY = 14,
+    /* switch at a depth other than 1 */
+    BENCH_ANSWER_DEPTH_NOT_ONE = 15,
+    /* switch: there is no such program: the program count or above */
+    BENCH_ANSWER_NO_PROGRAM = 16,
+    /* kernel store: the mode is neither 0 nor 1 */
+    BENCH_ANSWER_BAD_MODE = 17,
+    /* the record is of no kind listed above */
+    BENCH_ANSWER_BAD_KIND = 18,
+
+    /* The image is refused. */
+
+    /* it is shorter than 31 or longer than 574 bytes */
+    BENCH_ANSWER_IMAGE_LENGTH = 20,
+    /* contents: the kind or the zero byte of an entry is wrong */
+    BENCH_ANSWER_IMAGE_KIND = 21,
+    /* contents: the shape's offset is not 18 or its length is not 4 */
+    BENCH_ANSWER_IMAGE_SHAPE_ENTRY = 22,
+    /* shape: P, e, N or the zero byte is out of range, or there is too much
+       memory, above 65,536 bytes */
+    BENCH_ANSWER_IMAGE_SHAPE = 23,
+    /* contents: offset or length of pages or programs is wrong, or the image
+       does not stop after the last program */
+    BENCH_ANSWER_IMAGE_BODY_ENTRY = 24,
+    /* a program's mode is neither 0 nor 1 */
+    BENCH_ANSWER_IMAGE_MODE = 25
+};
 
 #ifdef __cplusplus
 extern "C" {

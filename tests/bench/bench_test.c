@@ -385,13 +385,15 @@ static void add_changed_bytes(void)
         uint8_t input[TEXT_INPUT_MOST];
         size_t input_len = numbers(SAMPLE "00 00 00 00 00 00 0C 00 00 00 00 00",
                                    16, input, sizeof input);
-        const uint8_t answers[] = {c->answer, 18, 18};
+        const uint8_t answers[] = {c->answer, BENCH_ANSWER_BAD_KIND,
+                                   BENCH_ANSWER_BAD_KIND};
+        bool loads = c->answer == BENCH_ANSWER_DONE;
         input[2 + c->offset] = c->value;
 
         char name[64];
         snprintf(name, sizeof name, "sample image, byte %u is %02X", c->offset,
                  (unsigned)c->value);
-        add_case(name, input, input_len, answers, c->answer == 0 ? 3 : 1);
+        add_case(name, input, input_len, answers, loads ? 3 : 1);
     }
 }
 
@@ -428,7 +430,7 @@ static void add_longest_image(void)
     add_case("longest image", input, image_end + calls, answers, count);
 
     /* The same image with one byte more is refused for its length alone. */
-    static const uint8_t refused[] = {20};
+    static const uint8_t refused[] = {BENCH_ANSWER_IMAGE_LENGTH};
     input[1] = 0x3F;
     add_case("an image of 575 bytes", input, image_end + calls, refused, 1);
     input[0] = 0xFF;
@@ -457,7 +459,7 @@ static void add_full_input(void)
     size_t image_end = numbers(SHORTEST, 16, input, sizeof input);
     for (size_t i = image_end; i < sizeof input; i++)
         input[i] = round_calls[(i - image_end) % sizeof round_calls];
-    answers[0] = 0;
+    answers[0] = BENCH_ANSWER_DONE;
     for (size_t i = 0; i < CALLS; i++)
         answers[1 + i] = round_answers[i % ROUND];
 
@@ -474,7 +476,7 @@ static void add_long_inputs(void)
     static uint8_t input[TWICE_16_BITS];
     static uint8_t answers[1 + 5453];
     numbers(SAMPLE SAMPLE_CALLS, 16, input, sizeof input);
-    memset(answers, 18, sizeof answers);
+    memset(answers, BENCH_ANSWER_BAD_KIND, sizeof answers);
     numbers(SAMPLE_ANSWERS, 10, answers, sizeof answers);
 
     add_case("sample node in 32,768 bytes", input, BENCH_INPUT_MOST, answers,
@@ -488,7 +490,7 @@ static void add_long_inputs(void)
     add_case("sample node in 65,630 bytes", input, 65536 + 94, answers, 0);
     add_case("sample node in 131,166 bytes", input, TWICE_16_BITS, answers, 0);
 
-    static const uint8_t refused[] = {20};
+    static const uint8_t refused[] = {BENCH_ANSWER_IMAGE_LENGTH};
     input[0] = 0xFF;
     input[1] = 0xFF;
     add_case("one image in 32,768 bytes", input, BENCH_INPUT_MOST, refused, 1);
@@ -627,6 +629,44 @@ static void check_case(const struct bench_case *c)
     }
 }
 
+/* The header's names, in the order of document 01's numbers. */
+static void check_constants(void)
+{
+    static const int kinds[] = {
+        BENCH_KIND_ACCESS, BENCH_KIND_GRANT, BENCH_KIND_REVOKE,
+        BENCH_KIND_MASK, BENCH_KIND_ENTRY, BENCH_KIND_RETURN,
+        BENCH_KIND_SWITCH, BENCH_KIND_STORE_FIELD, BENCH_KIND_STORE_CONTEXT,
+        BENCH_KIND_STORE_MASK, BENCH_KIND_STORE_MODE,
+    };
+    static const int answers[] = {
+        BENCH_ANSWER_DONE, BENCH_ANSWER_NOT_SOUND, BENCH_ANSWER_BAD_RIGHT,
+        BENCH_ANSWER_BAD_ADDRESS, BENCH_ANSWER_BAD_PAGE,
+        BENCH_ANSWER_BAD_DOMAIN, BENCH_ANSWER_IN_PRIVILEGED,
+        BENCH_ANSWER_IN_USER, BENCH_ANSWER_PENDING, BENCH_ANSWER_VIOLATION,
+        BENCH_ANSWER_NO_TABLE_ENTRY, BENCH_ANSWER_NOT_PREVAILING,
+        BENCH_ANSWER_NOT_LOWER, BENCH_ANSWER_STACK_FULL,
+        BENCH_ANSWER_STACK_EMPTY, BENCH_ANSWER_DEPTH_NOT_ONE,
+        BENCH_ANSWER_NO_PROGRAM, BENCH_ANSWER_BAD_MODE, BENCH_ANSWER_BAD_KIND,
+    };
+    static const int refused[] = {
+        BENCH_ANSWER_IMAGE_LENGTH, BENCH_ANSWER_IMAGE_KIND,
+        BENCH_ANSWER_IMAGE_SHAPE_ENTRY, BENCH_ANSWER_IMAGE_SHAPE,
+        BENCH_ANSWER_IMAGE_BODY_ENTRY, BENCH_ANSWER_IMAGE_MODE,
+    };
+    for (int i = 0; i < 11; i++)
+        check(kinds[i] == 1 + i, "kind %d is %d in bench.h", 1 + i, kinds[i]);
+    for (int i = 0; i < 19; i++)
+        check(answers[i] == i, "answer %d is %d in bench.h", i, answers[i]);
+    for (int i = 0; i < 6; i++)
+        check(refused[i] == 20 + i, "answer %d is %d in bench.h", 20 + i,
+              refused[i]);
+    check(BENCH_RIGHT_READ == 0 && BENCH_RIGHT_WRITE == 1, "rights: 0 and 1");
+    check(BENCH_MODE_USER == 0 && BENCH_MODE_PRIVILEGED == 1,
+          "modes: 0 and 1");
+    check(BENCH_INPUT_MOST == 32768, "BENCH_INPUT_MOST: expected 32768");
+    check(BENCH_ANSWERS_MOST == 1 + 5455, "BENCH_ANSWERS_MOST: expected 5456");
+}
+
 int main(void)
 {
     add_text_cases();
@@ -635,8 +675,7 @@ int main(void)
     add_full_input();
     add_long_inputs();
 
-    check(BENCH_INPUT_MOST == 32768, "BENCH_INPUT_MOST: expected 32768");
-    check(BENCH_ANSWERS_MOST == 1 + 5455, "BENCH_ANSWERS_MOST: expected 5456");
+    check_constants();
 
     /* Forwards and backwards, so that each case has other neighbours. */
     for (size_t i = 0; i < case_count; i++)

@@ -7,6 +7,10 @@
 
 #include <stdio.h>
 
+/* A call's record of 6 bytes; A and B have the high byte first. */
+#define CALL(kind, right, a, b) \
+    (kind), (right), (a) >> 8, (a) & 0xFF, (b) >> 8, (b) & 0xFF
+
 static const uint8_t input[] = {
     0x00, 0x2C, /* the image has 44 bytes */
 
@@ -20,14 +24,16 @@ static const uint8_t input[] = {
     /* Programs: global context, mask, mode. */
     0x00, 0x07, 0x00, 0x03, 0x00, 0x00, 0x08, 0xFF, 0xFF, 0x00,
 
-    0x01, 0x00, 0x00, 0x00, 0x00, 0x10, /* 1: read address 0x0010 */
-    0x01, 0x00, 0x00, 0x00, 0x02, 0x00, /* 2: read address 0x0200 */
-    0x04, 0x00, 0x00, 0x00, 0x00, 0x07, /* 3: mask command, 0x0007 */
-    0x05, 0x00, 0x00, 0x00, 0x00, 0x00, /* 4: interrupt entry */
-    0x07, 0x00, 0x00, 0x00, 0x00, 0x01, /* 5: switch to program 1 */
-    0x06, 0x00, 0x00, 0x00, 0x00, 0x00, /* 6: return */
-    0x01, 0x00, 0x00, 0x00, 0x02, 0x00, /* 7: read address 0x0200 */
-    0x01, 0x01, 0x00, 0x00, 0x00, 0x00, /* 8: write address 0x0000 */
+    /* Calls 1 to 8: two reads, a mask command, a turn of program 1 with a read
+       and a write. */
+    CALL(BENCH_KIND_ACCESS, BENCH_RIGHT_READ, 0, 0x0010),
+    CALL(BENCH_KIND_ACCESS, BENCH_RIGHT_READ, 0, 0x0200),
+    CALL(BENCH_KIND_MASK, 0, 0, 0x0007),
+    CALL(BENCH_KIND_ENTRY, 0, 0, 0),
+    CALL(BENCH_KIND_SWITCH, 0, 0, 1),
+    CALL(BENCH_KIND_RETURN, 0, 0, 0),
+    CALL(BENCH_KIND_ACCESS, BENCH_RIGHT_READ, 0, 0x0200),
+    CALL(BENCH_KIND_ACCESS, BENCH_RIGHT_WRITE, 0, 0x0000),
 };
 
 int main(void)
