@@ -1,6 +1,6 @@
 -- `cases::run_case` meets its contract: a case that the bytes hold is as long as it says, and one that they cut is the last.
 use mathlib.Core.Path.{_≡_, _∙_}
-use Prim.Native.Nat.{_+_, _-_, _≤_}
+use Prim.Native.Nat.{_+_, _-_}
 use borrow.Author.Needs.{needs}
 use borrow.Author.Tests.{le-leb, lt-leb}
 use native.Mathlib.Omega.{arith}
@@ -14,20 +14,19 @@ sub-print-case : tie.Need-sub-print-case
 sub-print-case c = rw (c .before .end-at .ensures) (end-past _ _)
 
 part-print-case-start : tie.Need-part-print-case-start
-part-print-case-start c = omega (arith, c .before .end-at .ensures, end-past (c .before .before .before .args .bytes .now) (c .before .before .before .args .at))
+part-print-case-start c = omega (arith, sub-print-case c)
 
 -- what is printed is the rest of the case
-printed : (c : tie.After-print-case) → c .before .before .before .before .before .args .at + 4 + c .print-case .result ≡ c .before .before .before .end-at .result
-printed c =
-    let a = c .before .before .before .before .before .args in
-    let end = c .before .before .before .end-at in
-    let past : a .at + 4 ≤ end .result = rw (end .ensures) (end-past (a .bytes .now) (a .at)) in
-    let rest : c .print-case .result ≡ end .result - (a .at + 4) = c .print-case .ensures ∙ simp (length-take, length-drop) (omega (arith, c .before .before .if1 .taken)) in
-    omega (arith, past, rest)
-
 returns : tie.Need-returns
 unfolding nextOf
-returns c = rw (← c .before .before .before .end-at .ensures, le-leb _ _ (c .before .before .if1 .taken)) (printed c)
+returns c =
+    let start : tie.Start = (search) in
+    let ending : tie.After-end-at = (search) in
+    let holding : tie.Then1 = (search) in
+    let end = ending .end-at .result in
+    let rest : c .print-case .result ≡ end - (start .args .at + 4) =
+    c .print-case .ensures ∙ simp (length-take, length-drop) (omega (arith, holding .if1 .taken)) in
+    rw (← ending .end-at .ensures, le-leb _ _ (holding .if1 .taken)) (omega (arith, sub-print-case holding, rest))
 
 returns-2 : tie.Need-returns-2
 unfolding nextOf

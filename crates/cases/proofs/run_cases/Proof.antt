@@ -1,5 +1,5 @@
 -- `cases::run_cases` meets its contract. The loop's invariant: the place is within the bytes. The measure is what is left of them.
-use Prim.Native.Nat.{_+_, _-_, _≤_, _<_}
+use Prim.Native.Nat.{_+_, _-_, _≤_}
 use borrow.Author.Needs.{needs}
 use native.Mathlib.Omega.{arith}
 use lib.ListN.{length}
@@ -14,14 +14,16 @@ abbrev μ-loop : tie.MeasureT-loop
 μ-loop bytes at₀ number₀ at number = length bytes - at
 
 -- the next case stands further on, and within the bytes
-further : (c : tie.After-run-case Inv-loop μ-loop) → (c .before .before .loop .at < c .run-case .result) × (c .run-case .result ≤ length (c .before .before .before .before .args .bytes .now))
-further c = rw (c .run-case .ensures) (next-past _ _ (c .before .loop-test .taken))
-
 loop-less : tie.Need-loop-less Inv-loop μ-loop
-loop-less c = omega (arith, further c)
+loop-less c =
+    let start : tie.Start Inv-loop μ-loop = (search) in
+    omega (arith, c .run-case .ensures, next-past (start .args .bytes .now) _ (c .before .loop-test .taken))
 
 loop-again : tie.Need-loop-again Inv-loop μ-loop
-loop-again c = (omega (arith, further c), omega (arith, further c))
+loop-again c =
+    let start : tie.Start Inv-loop μ-loop = (search) in
+    let further = next-past (start .args .bytes .now) _ (c .before .loop-test .taken) in
+    (omega (arith, c .run-case .ensures, further), omega (arith, c .run-case .ensures, further))
 
 pub run-cases-spec : {M : Type 1} → statement M
 run-cases-spec =

@@ -9,11 +9,11 @@ use Rattle.text.proofs.put_decimal.Tie as tie
 returns : tie.Need-returns
 unfolding decimalOf
 returns c =
-    let p₅ = c .before .before in
-    let p₄ = p₅ .before .before .before .before in
-    let p₃ = p₄ .before .before .before .before in
-    let p₂ = p₃ .before .before .before .before in
-    let p₁ = p₂ .before .before .before .before in
+    let p₁ : tie.After-put-leading = (search) in
+    let p₂ : tie.After-put-leading2 = (search) in
+    let p₃ : tie.After-put-leading3 = (search) in
+    let p₄ : tie.After-put-leading4 = (search) in
+    let p₅ : tie.After-put-byte = (search) in
     put-put
     (put-put (put-put (put-put (p₁ .put-leading .ensures) (p₂ .put-leading2 .ensures)) (p₃ .put-leading3 .ensures)) (p₄ .put-leading4 .ensures))
     (p₅ .put-byte .ensures)
@@ -23,11 +23,17 @@ put-decimal-spec =
     tie.close
     (tie.spec
     (search needs)
-    (λ c κs. omega (arith, put-long, leading-most (c .before .before .before .before .before .before .args .n) 10000))
-    (λ c κs. let n = c .before .before .before .before .before .before .before .before .before .before .args .n in omega (arith, put-long, leading-most n 10000, leading-most n 1000))
-    (λ c κs. let n = c .before .before .before .before .before .before .before .before .before .before .before .before .before .before .args .n in omega (arith, put-long, leading-most n 10000, leading-most n 1000, leading-most n 100))
+    (λ c κs. let start : tie.Start = (search) in omega (arith, put-long, leading-most (start .args .n) 10000))
+    (λ c κs. let start : tie.Start = (search) in omega (arith, put-long, leading-most (start .args .n) 10000, leading-most (start .args .n) 1000))
+    (λ c κs.
+    let start : tie.Start = (search) in
+    let n = start .args .n in
+    omega (arith, put-long, leading-most n 10000, leading-most n 1000, leading-most n 100))
     (λ c. search needs)
     (λ c. search needs)
-    (λ c κs. let n = c .before .before .before .before .before .before .before .before .before .before .before .before .before .before .before .before .before .before .args .n in omega (arith, put-long, leading-most n 10000, leading-most n 1000, leading-most n 100, leading-most n 10))
+    (λ c κs.
+    let start : tie.Start = (search) in
+    let n = start .args .n in
+    omega (arith, put-long, leading-most n 10000, leading-most n 1000, leading-most n 100, leading-most n 10))
     (λ c. search needs)
     returns)

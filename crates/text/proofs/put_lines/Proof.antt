@@ -29,8 +29,10 @@ loop-holds c = (refl, omega arith, refl, refl)
 
 loop-again : tie.Need-loop-again Inv-loop μ-loop
 loop-again c =
-    let l = c .before .before .before .before .before .before .loop in
-    let answers = c .before .before .before .before .before .before .before .before .before .args .answers .now in
+    let start : tie.Start Inv-loop μ-loop = (search) in
+    let looping : tie.At-loop Inv-loop μ-loop = (search) in
+    let l = looping .loop in
+    let answers = start .args .answers .now in
     let line = c .before .before .put-line .ensures in
     let most = line-most (l .i) (getD answers (l .i) 0) in
     let turn = turn-line answers (l .i) (omega arith) line in (
@@ -40,14 +42,12 @@ loop-again c =
       turn .1 ∙ l .inv .3,
     )
 
-same-length : tie.Need-same-length Inv-loop μ-loop
-same-length c = c .before .loop .inv .0
-
 returns : tie.Need-returns Inv-loop μ-loop
 unfolding linesFrom
 returns c =
     let l = c .before .loop in
-    let answers = c .before .before .before .before .args .answers .now in
+    let start : tie.Start Inv-loop μ-loop = (search) in
+    let answers = start .args .answers .now in
     let left : drop (l .i) answers ≡ [] = drop-of-length-le answers {i = l .i} (omega arith) in
     record { stored = rw left at (l .inv .2); next = omega (arith, rw left at (l .inv .3)) }
 
@@ -55,4 +55,4 @@ pub put-lines-spec : {M : Type 1} → statement M
 put-lines-spec =
     tie.close
     (tie.spec Inv-loop μ-loop loop-holds (λ c. search needs) (λ c. search needs) (λ c κs. search needs) (λ c. search needs) (λ c. search needs)
-    loop-again same-length returns)
+    loop-again (λ c. search needs) returns)

@@ -6,10 +6,6 @@ use borrow.Author.Needs.{needs}
 use Rattle.text.proofs.put_load.Statement.{statement}
 use Rattle.text.proofs.put_load.Tie as tie
 
-put-byte-requires : tie.Need-put-byte-requires
-put-byte-requires c κs =
-    omega (arith, put-long, decimal-most (c .before .before .before .before .before .before .before .before .before .before .before .args .answer))
-
 returns : tie.Need-returns
 unfolding loadLine
 returns c = search put-put depth 7
@@ -17,4 +13,5 @@ returns c = search put-put depth 7
 pub put-load-spec : {M : Type 1} → statement M
 put-load-spec =
     tie.close
-    (tie.spec (λ c. search needs) (λ c κs. search needs) (λ c κs. search needs) put-byte-requires (λ c. search needs) returns)
+    (tie.spec (λ c. search needs) (λ c κs. search needs) (λ c κs. search needs)
+    (λ c κs. let start : tie.Start = (search) in omega (arith, put-long, decimal-most (start .args .answer))) (λ c. search needs) returns)

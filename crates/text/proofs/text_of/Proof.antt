@@ -10,24 +10,23 @@ use Rattle.text.proofs.text_of.Tie as tie
 returns : tie.Need-returns
 unfolding printed
 returns c =
-    let out = c .before .before .before .args .out .now in
+    let start : tie.Start = (search) in
+    let out = start .args .out .now in
     rw (lt-leb 100000 (length out) (c .if1 .taken)) (put-none out 0)
 
 returns-2 : tie.Need-returns-2
 unfolding printed textOf
 returns-2 c =
-    let long = c .before .before .before .before .before in
-    let room = long .before in
-    let a = room .before .before .before .args in
-    rw (le-leb 100000 (length (a .out .now)) (room .if1 .left), lt-ltb 32768 (length (a .input .now)) (long .if2 .taken)) (c .before .before .put-bytes .ensures)
+    let fitting : tie.Else1 = (search) in
+    let refusing : tie.Then2 = (search) in
+    rw (le-leb _ _ (fitting .if1 .left), lt-ltb _ _ (refusing .if2 .taken)) (c .before .before .put-bytes .ensures)
 
 returns-3 : tie.Need-returns-3
 unfolding printed textOf
 returns-3 c =
-    let short = c .before .before .before .before in
-    let room = short .before in
-    let a = room .before .before .before .args in
-    rw (le-leb 100000 (length (a .out .now)) (room .if1 .left), le-ltb 32768 (length (a .input .now)) (short .if2 .left)) (c .before .before .put-run .ensures)
+    let fitting : tie.Else1 = (search) in
+    let running : tie.Else2 = (search) in
+    rw (le-leb _ _ (fitting .if1 .left), le-ltb _ _ (running .if2 .left)) (c .before .before .put-run .ensures)
 
 pub text-of-spec : {M : Type 1} → statement M
 text-of-spec =

@@ -24,25 +24,28 @@ loop-holds c = (search needs, search needs, refl)
 
 loop-again : tie.Need-loop-again Inv-loop μ-loop
 loop-again c =
-    let s = c .before .before .before .before .before .before .args .bytes .now in
-    let loop = c .before .before .before .loop in
+    let start : tie.Start Inv-loop μ-loop = (search) in
+    let looping : tie.At-loop Inv-loop μ-loop = (search) in
+    let loop = looping .loop in
     let below = ltb-true (loop .i) 256 (c .before .if1 .taken) in (
       omega arith,
       omega arith,
-      rw (loop .inv .2, c .field-at .ensures, add-one) (pad-next 2 (fieldAt s) 0 256 22 (loop .i) below),
+      rw (loop .inv .2, c .field-at .ensures, add-one) (pad-next 2 (fieldAt (start .args .bytes .now)) 0 256 22 (loop .i) below),
     )
 
 returns : tie.Need-returns Inv-loop μ-loop
 returns c =
-    let s = c .before .before .before .before .before .args .bytes .now in
-    let loop = c .before .before .loop in
+    let start : tie.Start Inv-loop μ-loop = (search) in
+    let looping : tie.At-loop Inv-loop μ-loop = (search) in
+    let s = start .args .bytes .now in
+    let loop = looping .loop in
     let full = ltb-false (loop .i) 256 (c .if1 .left) in
     loop .inv .2 ∙ pad-enough 2 (fieldAt s) 0 256 22 (loop .i) (2 * pageCount s) full (omega arith)
 
 returns-2 : tie.Need-returns-2 Inv-loop μ-loop
 returns-2 c =
-    let s = c .before .before .before .before .args .bytes .now in
-    let all : c .before .loop .i ≡ 2 * pageCount s = omega arith in
+    let start : tie.Start Inv-loop μ-loop = (search) in
+    let all : c .before .loop .i ≡ 2 * pageCount (start .args .bytes .now) = omega arith in
     rw (← all) (c .before .loop .inv .2)
 
 pub fields-of-spec : {M : Type 1} → statement M

@@ -12,11 +12,14 @@ use Rattle.image.proofs.loader.machine_of.Tie as tie
 returns : tie.Need-returns
 unfolding machineOf describe
 returns c =
-    let s = c .before .before .before .before .before .before .before .args .bytes .now in
+    let start : tie.Start = (search) in
+    let tabling : tie.After-table-of = (search) in
+    let counting : tie.After-byte-at = (search) in
+    let s = start .args .bytes .now in
     rw (
-      c .before .before .before .before .before .table-of .ensures,
+      tabling .table-of .ensures,
       c .before .fields-of .ensures,
-      c .before .before .before .byte-at .ensures,
+      counting .byte-at .ensures,
       c .before .before .byte-at2 .ensures,
       c .byte-at3 .ensures,
       pad-at noProgram 8 (programsOf s) 0 (omega arith),

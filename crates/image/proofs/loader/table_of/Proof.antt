@@ -25,29 +25,31 @@ loop-holds c = (search needs, search needs, refl)
 
 loop-again : tie.Need-loop-again Inv-loop μ-loop
 loop-again c =
-    let s = c .before .before .before .before .before .before .before .before .args .bytes .now in
-    let loop = c .before .before .before .before .loop in
-    let at = 22 + 4 * pageCount s in
-    let read : c .program-at .result ≡ programAt s (at + 5 * loop .i) =
-    rw (c .program-at .ensures, c .before .program-place .ensures, c .before .before .before .before .before .before .byte-at .ensures) in
+    let start : tie.Start Inv-loop μ-loop = (search) in
+    let counting : tie.After-byte-at Inv-loop μ-loop = (search) in
+    let looping : tie.At-loop Inv-loop μ-loop = (search) in
+    let loop = looping .loop in
     let below = ltb-true (loop .i) 8 (c .before .before .if1 .taken) in (
       omega arith,
       omega arith,
-      rw (loop .inv .2, read, add-one) (pad-next 5 (programAt s) noProgram 8 at (loop .i) below),
+      rw (loop .inv .2, c .program-at .ensures, c .before .program-place .ensures, counting .byte-at .ensures, add-one)
+          (pad-next 5 (programAt (start .args .bytes .now)) noProgram 8 _ (loop .i) below),
     )
 
 returns : tie.Need-returns Inv-loop μ-loop
 returns c =
-    let s = c .before .before .before .before .before .before .args .bytes .now in
-    let loop = c .before .before .loop in
+    let start : tie.Start Inv-loop μ-loop = (search) in
+    let looping : tie.At-loop Inv-loop μ-loop = (search) in
+    let s = start .args .bytes .now in
+    let loop = looping .loop in
     let full = ltb-false (loop .i) 8 (c .if1 .left) in
     loop .inv .2
     ∙ pad-enough 5 (programAt s) noProgram 8 (22 + 4 * pageCount s) (loop .i) (programCount s) full (omega arith)
 
 returns-2 : tie.Need-returns-2 Inv-loop μ-loop
 returns-2 c =
-    let s = c .before .before .before .before .before .args .bytes .now in
-    let all : c .before .loop .i ≡ programCount s = omega arith in
+    let start : tie.Start Inv-loop μ-loop = (search) in
+    let all : c .before .loop .i ≡ programCount (start .args .bytes .now) = omega arith in
     rw (← all) (c .before .loop .inv .2)
 
 pub table-of-spec : {M : Type 1} → statement M

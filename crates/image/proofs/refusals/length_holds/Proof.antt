@@ -3,9 +3,6 @@ use Rattle.image.specs.Load.{lengthTests}
 use Rattle.image.proofs.refusals.length_holds.Statement.{statement}
 use Rattle.image.proofs.refusals.length_holds.Tie as tie
 
-returns : tie.Need-returns
-unfolding lengthTests
-returns c = cc
-
 pub length-holds-spec : {M : Type 1} → statement M
-length-holds-spec = tie.close (tie.spec returns)
+unfolding lengthTests
+length-holds-spec = tie.close (tie.spec (λ c. cc))

@@ -1,8 +1,10 @@
 -- `image::refusals::modes_hold` meets its contract. The loop's invariant: the modes that are left decide.
 use Prim.Native.Nat.{_+_, _*_, _-_, _≤_}
 use mathlib.Core.Path.{_≡_}
+use mathlib.Core.Bool.{_&&_}
 use borrow.Author.Needs.{needs}
 use borrow.Author.Tests.{le-leb, lt-leb}
+use lib.Dec.{leb}
 use native.Mathlib.Omega.{arith}
 use native.Mathlib.Nat.{add-zero, sub-zero}
 use Rattle.image.specs.Bytes.{entries}
@@ -22,29 +24,37 @@ abbrev μ-loop : tie.MeasureT-loop
 loop-holds : tie.Need-loop-holds Inv-loop μ-loop
 loop-holds c = (omega arith, simp (add-zero, sub-zero))
 
+-- the modes that are left are the one that was read and those past it
+next : (c : tie.After-mode-at Inv-loop μ-loop)
+    → let start : tie.Start Inv-loop μ-loop = (search) in
+    let looping : tie.At-loop Inv-loop μ-loop = (search) in
+    let s = start .args .bytes .now in
+    let i = looping .loop .i in
+    areModes (modesOf s)
+    ≡ leb (c .mode-at .result) 1 && areModes (entries 5 (modeAt s) (22 + 4 * pageCount s + 5 * (i + 1)) (programCount s - (i + 1)))
+next c =
+    let start : tie.Start Inv-loop μ-loop = (search) in
+    let counting : tie.After-byte-at Inv-loop μ-loop = (search) in
+    let looping : tie.At-loop Inv-loop μ-loop = (search) in
+    let s = start .args .bytes .now in
+    rw (
+      looping .loop .inv .1,
+      left-some 5 (modeAt s) (programCount s) (looping .loop .i) (22 + 4 * pageCount s) (omega arith),
+      c .mode-at .ensures,
+      c .before .program-place .ensures,
+      counting .byte-at .ensures,
+    )
+
 returns : tie.Need-returns Inv-loop μ-loop
-returns c =
-    let s = c .before .before .before .before .before .before .before .before .args .bytes .now in
-    let loop = c .before .before .before .before .loop in
-    let at = 22 + 4 * pageCount s in
-    let mode : c .before .mode-at .result ≡ modeAt s (at + 5 * loop .i) =
-    rw (c .before .mode-at .ensures, c .before .before .program-place .ensures, c .before .before .before .before .before .before .byte-at .ensures) in
-    let more = left-some 5 (modeAt s) (programCount s) (loop .i) at (omega arith) in
-    rw (loop .inv .1, more, ← mode, lt-leb _ _ (c .if1 .taken))
+returns c = rw (next (c .before), lt-leb _ _ (c .if1 .taken))
 
 loop-again : tie.Need-loop-again Inv-loop μ-loop
-loop-again c =
-    let s = c .before .before .before .before .before .before .before .before .args .bytes .now in
-    let loop = c .before .before .before .before .loop in
-    let at = 22 + 4 * pageCount s in
-    let mode : c .before .mode-at .result ≡ modeAt s (at + 5 * loop .i) =
-    rw (c .before .mode-at .ensures, c .before .before .program-place .ensures, c .before .before .before .before .before .before .byte-at .ensures) in
-    let more = left-some 5 (modeAt s) (programCount s) (loop .i) at (omega arith) in
-    (omega arith, rw (loop .inv .1, more, ← mode, le-leb _ _ (c .if1 .left)))
+loop-again c = (omega arith, rw (next (c .before), le-leb _ _ (c .if1 .left)))
 
 returns-2 : tie.Need-returns-2 Inv-loop μ-loop
 returns-2 c =
-    let s = c .before .before .before .before .before .args .bytes .now in
+    let start : tie.Start Inv-loop μ-loop = (search) in
+    let s = start .args .bytes .now in
     let loop = c .before .loop in
     rw (loop .inv .1, left-none 5 (modeAt s) (programCount s) (loop .i) (22 + 4 * pageCount s + 5 * loop .i) (omega arith))
 

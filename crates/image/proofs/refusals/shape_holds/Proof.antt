@@ -19,10 +19,12 @@ memory-guarded false false b₁ b₂ b₃ x most = refl
 returns : tie.Need-returns
 unfolding shapeTests
 returns c =
+    let counting : tie.After-byte-at = (search) in
+    let sizing : tie.After-byte-at2 = (search) in
     rw (
       c .memory-size .ensures,
-      c .before .before .before .before .byte-at .ensures,
-      c .before .before .before .byte-at2 .ensures,
+      counting .byte-at .ensures,
+      sizing .byte-at2 .ensures,
       c .before .before .byte-at3 .ensures,
       c .before .byte-at4 .ensures,
       memory-guarded,
