@@ -1,3 +1,4 @@
+-- `rules::domains::holds_domain` meets its contract, by that of `domain_bit`.
 use borrow.Author.Needs.{needs}
 use Rattle.rules.proofs.domains.holds_domain.Statement.{statement}
 use Rattle.rules.proofs.domains.holds_domain.Tie as tie

@@ -1,3 +1,4 @@
+-- `rules::domains::with_bit` meets its contract, by that of `domain_bit`.
 use borrow.Author.Needs.{needs}
 use Rattle.rules.proofs.domains.with_bit.Statement.{statement}
 use Rattle.rules.proofs.domains.with_bit.Tie as tie

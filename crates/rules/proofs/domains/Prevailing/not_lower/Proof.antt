@@ -1,3 +1,4 @@
+-- `Prevailing::not_lower` meets its contract, by the two cases of a prevailing domain.
 use borrow.Author.Needs.{needs}
 use Rattle.rules.proofs.domains.Prevailing.not_lower.Statement.{statement}
 use Rattle.rules.proofs.domains.Prevailing.not_lower.Tie as tie

@@ -1,3 +1,4 @@
+-- `Prevailing::outside` meets its contract, by the two cases of a prevailing domain.
 use borrow.Author.Needs.{needs}
 use Rattle.rules.proofs.domains.Prevailing.outside.Statement.{statement}
 use Rattle.rules.proofs.domains.Prevailing.outside.Tie as tie
