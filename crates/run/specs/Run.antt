@@ -42,6 +42,6 @@ answersOf input = loadedOf input .number ∷ callAnswers input
 abbrev pub isLong : List ℕ → Bool
 isLong input = ltb 32768 (length input)
 
--- RULES 7.2 to 7.4: what the bench gets: all answers, or none where the buffer has no room for all of them or the input is not run
+-- RULES 7.2 to 7.4: what the bench gets: every answer, or none where they do not all fit in the buffer or the input is too long
 unfoldable pub sent : List ℕ → ℕ → List ℕ
 sent input room = pick (isLong input) [] (pick (leb (length (answersOf input)) room) (answersOf input) [])
