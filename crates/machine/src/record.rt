@@ -42,7 +42,7 @@ pub struct Answered {
     pub machine: Machine,
 }
 
-// One of the eleven calls.
+// One of the eleven calls (RULES 2.1), with arguments of the widths of RULES 2.6.
 pub enum Call {
     Access(u8, u32),
     Grant(u8, Page, Domain),

@@ -77,7 +77,7 @@ fn answer_count(number: u8, left: usize) -> usize
     1
 }
 
-// The bench's call: the answers of a whole input, and their count.
+// The bench's call (RULES 7.1 to 7.5): the answers of a whole input, and their count.
 #[no_mangle]
 pub extern "C" fn bench_run(input: &[u8], answers: &mut [u8]) -> usize
     ensures { λ r. ⌜ r ≡ length (sent (now (input .entry)) (length (now (answers .entry)))) ⌝ }
