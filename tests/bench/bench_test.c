@@ -1,7 +1,7 @@
 /*
  * Tests of the bench function through its C header.
  *
- * The answers below are written down by hand from document 01. Every input is
+ * The answers below are written down by hand from the rules. Every input is
  * run with buffers that are too short, just long enough and longer than
  * needed, with guard bytes around the input and around the answers.
  *
@@ -24,7 +24,7 @@ enum {
     TEXT_INPUT_MOST = 1024,
 };
 
-/* The sample node's image, 44 bytes, in the parts that document 01 names. */
+/* The sample node's image, 44 bytes, in the parts of RULES 5.12. */
 #define SAMPLE_TABLE "01 00 00 12 00 04  02 00 00 16 00 0C  03 00 00 22 00 0A "
 #define SAMPLE_PAGES "00 09 00 00  00 0A 00 02  00 0C 00 04 "
 #define SAMPLE_IMAGE SAMPLE_TABLE "03 08 02 00 " SAMPLE_PAGES \
@@ -112,7 +112,7 @@ static const struct text_case text_cases[] = {
     {"shortest image, length 30", "00 1E " SHORTEST_IMAGE ENTRY, "20"},
     {"shortest image", SHORTEST ENTRY, "0 0"},
 
-    /* The first fault in document 01's order decides. */
+    /* The first fault in the order of RULES 5.8 decides. */
     {"20 before 21", "00 03 FF FF FF", "20"},
     {"21 before 22", "00 1F " "01 00 00 13 00 04  02 00 00 16 00 04 "
      "03 01 00 1A 00 05  01 05 01 00  01 00 80 00  81 00 FF FF 00", "21"},
@@ -129,7 +129,7 @@ static const struct text_case text_cases[] = {
     {"memory of 128 pages of 4096 bytes", "00 1F " SHORTEST_TABLE
      "80 0C 01 00  01 00 80 00  81 00 FF FF 00", "23"},
 
-    /* The starred cases of document 01, each from the loaded sample. */
+    /* The starred cases: the twelve of RULES 5.13. */
     {"* read page 1", SAMPLE READ_PAGE("01"), "0 0"},
     {"* write page 1", SAMPLE WRITE_PAGE("01"), "0 0"},
     {"* write page 0", SAMPLE WRITE_PAGE("00"), "0 9"},
@@ -629,7 +629,7 @@ static void check_case(const struct bench_case *c)
     }
 }
 
-/* The header's names, in the order of document 01's numbers. */
+/* The header's names, in the order of their numbers (RULES 6.5, 9.1). */
 static void check_constants(void)
 {
     static const int kinds[] = {

@@ -1,5 +1,5 @@
 /*
- * A complete use of the bench function: the sample node of document 01.
+ * A complete use of the bench function: the sample node (RULES 5.12, 6.11).
  *
  * Build: gcc -std=c11 -I include tests/bench/example.c LIB_DIR/librun.a
  */

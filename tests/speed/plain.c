@@ -1,6 +1,6 @@
 /*
  * A plain C version of the bench function: one machine in a struct, changed in
- * place by the calls. Each call refuses in document 01's order.
+ * place by the calls. Each call refuses in the order of RULES, section 3.
  */
 #include "plain.h"
 
@@ -216,7 +216,7 @@ static uint8_t machine_switch(struct machine *m, uint16_t program)
         return NOT_SOUND;
     if (!m->privileged)
         return IN_USER_MODE;
-    /* A sound machine never meets this; document 01 lists it all the same. */
+    /* A sound machine never meets this; the rules have it all the same. */
     if (m->current >= m->program_count)
         return NO_ENTRY_IN_TABLE;
     if (m->depth != 1)
@@ -229,7 +229,7 @@ static uint8_t machine_switch(struct machine *m, uint16_t program)
     from->mask = m->mask;
     from->privileged = m->saved[0];
 
-    /* Read after the write, so a switch to the current program keeps all. */
+    /* Read after the write, so a program switched to itself keeps all. */
     const struct program *to = &m->programs[program];
     m->context = to->context;
     m->mask = to->mask;

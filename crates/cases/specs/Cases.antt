@@ -1,4 +1,4 @@
--- The stored cases, one after another: "a length of 4 bytes, high byte first, and that many bytes of an input" (src/main.rt).
+-- The stored cases one after another, each a length of 4 bytes and that many bytes of an input (src/main.rt). They are for tests: no rule.
 use Prim.Native.Nat.{ℕ, _+_, _*_}
 use mathlib.Core.List.{List}
 use lib.Dec.{leb}

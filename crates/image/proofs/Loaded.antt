@@ -17,8 +17,7 @@ use Rattle.image.specs.Load.{fieldsOf, programsOf, programAt, fieldAt, p
 use Rattle.image.proofs.Entries.{length-entries, pad-at, pad-past}
 use Rattle.image.proofs.Passed.{Passed, passed}
 
--- "A loaded machine runs program 0 with its three registers, depth 0, flag clear." "Places beyond a count or the depth
--- are zero or user after a load."
+-- RULES 5.9: what holds of a loaded machine, whatever the image said: sound, program 0 live, all past a count or the depth empty
 pub record Loaded (m : Machine) : Type 0 where
   pub sound : isSound m ≡ true
   pub runs-first : m .current ≡ 0
@@ -63,13 +62,13 @@ pub loaded : (s : List ℕ) → loadOf s .number ≡ 0 → Loaded (loadOf s .mac
 unfolding loadOf
 loaded s loads = rw loads (described s (passed s loads))
 
--- "A refused load gives the machine in which every number is zero, every mode user and the flag clear."
+-- RULES 5.10: whatever refuses a load, the machine is the all-zero one
 pub refused-zero : (s : List ℕ) → (loadOf s .number ≡ 0 → ⊥) → loadOf s .machine ≡ zero
 unfolding loadOf
 refused-zero s refused =
     ap (λ (loads : Bool). pick loads (machineOf (describe s)) zero) (ne-eqb (first (loadChecks s)) 0 refused)
 
--- the answers of a load
+-- RULES 5.8: the numbers of a load, and no others
 pub load-number : (s : List ℕ) → isIn (loadOf s .number) (0 ∷ 20 ∷ 21 ∷ 22 ∷ 23 ∷ 24 ∷ 25 ∷ []) ≡ true
 unfolding loadOf loadChecks
 load-number s = first-within (0 ∷ 20 ∷ 21 ∷ 22 ∷ 23 ∷ 24 ∷ 25 ∷ []) (loadChecks s) refl

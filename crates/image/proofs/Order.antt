@@ -1,5 +1,5 @@
--- What a load answers, computed: strings that meet two conditions, neighbours in document 01's order, where the first decides; strings at the
--- ends of each range; and for each place of the sample's contents and shape a wrong byte there.
+-- What a load answers, computed: strings that meet two conditions, neighbours in the order of RULES 5.8, where the first decides; strings at
+-- the ends of each range; and for each place of the sample's contents and shape a wrong byte there.
 use Prim.Native.Nat.{ℕ}
 use mathlib.Core.Path.{_≡_, refl}
 use mathlib.Core.List.{List, [], _∷_, _++_, map}

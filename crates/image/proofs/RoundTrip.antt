@@ -1,5 +1,4 @@
--- Images and descriptions meet: "A legal image loads to the one machine it describes, and no other string loads" (the
--- second term).
+-- Images and descriptions meet: each legal description has one image, which loads to its machine, and nothing else loads (RULES 5.11).
 use Prim.Native.Nat.{ℕ, zero, suc, _+_, _*_, _<_}
 use mathlib.Core.Path.{_≡_, ap, sym, _∙_}
 use mathlib.Core.List.{List, [], _∷_, _++_}

@@ -1,4 +1,4 @@
--- Bytes and 16-bit fields (document 01, "The image").
+-- Bytes and numbers of 16 bits (RULES, section 5).
 use Prim.Native.Nat.{ℕ, zero, suc, _+_, _*_, _/_, _%_, _<_}
 use mathlib.Core.List.{List, [], _∷_, _++_}
 use lib.ListN.{getD}
@@ -7,27 +7,29 @@ use lib.ListN.{getD}
 abbrev pub byteAt : List ℕ → ℕ → ℕ
 byteAt s at = getD s at 0
 
--- "All 16-bit fields have the high byte first.": read ..
+-- RULES 5.1: the number of a high byte and a low byte
 abbrev pub wordOf : ℕ → ℕ → ℕ
 wordOf high low = 256 * high + low
 
+-- RULES 5.1: the number at a place, where its high byte stands first
 abbrev pub wordAt : List ℕ → ℕ → ℕ
 wordAt s at = wordOf (byteAt s at) (byteAt s (1 + at))
 
--- .. and written
+-- RULES 5.1: a number as it is written
 abbrev pub word : ℕ → List ℕ
 word w = w / 256 ∷ w % 256 ∷ []
 
--- each member of a string of bytes is a number below 256
+-- RULES 5.1: a string of bytes, each of them a number below 256
 abbrev pub Bytes : List ℕ → Type 0
 Bytes s = (at : ℕ) → byteAt s at < 256
 
--- bodies that stand one after another, each of a size, the first at a place: n of them read, and a list of them written
 module _ {A : Type 0} where
+  -- RULES 5.2: bodies of one size that stand one after another, with nothing between them: n of them read, the first at a place
   abbrev pub entries : (size : ℕ) → (ℕ → A) → (at n : ℕ) → List A
   entries size read at zero = []
   entries size read at (suc n) = read at ∷ entries size read (size + at) n
 
+  -- RULES 5.2: a list of bodies written so
   abbrev pub bodies : (A → List ℕ) → List A → List ℕ
   bodies write [] = []
   bodies write (x ∷ rest) = write x ++ bodies write rest

@@ -1,4 +1,4 @@
--- What an image says, the bytes that it is written in, and the machine that it stands for (document 01, "The image").
+-- What an image says, the bytes that it is written in, and the machine that it stands for (RULES, section 5).
 use Prim.Native.Nat.{ℕ, zero, suc, _+_, _*_, _^_, _≤_, _<_}
 use mathlib.Core.Path.{_≡_}
 use mathlib.Core.Bool.{false}
@@ -12,45 +12,43 @@ use Rattle.machine.specs.declared.record.Machine.{Machine}
 use Rattle.machine.specs.declared.record.Program.{Program}
 use Rattle.image.specs.Bytes.{word, bodies}
 
--- the page count and the page size exponent, the READ and WRITE fields of each page, and the programs
+-- RULES 5.11: what is chosen for an image; the fields are READ and WRITE of each page in turn
 pub record Description : Type 0 where
   pub pages : ℕ
   pub exponent : ℕ
   pub fields : List ℕ
   pub programs : List Program
 
--- "three entries of kind (1 byte), zero (1 byte), offset (2 bytes), length (2 bytes)"
+-- RULES 5.3: an entry of the table of contents
 abbrev pub entry : ℕ → ℕ → ℕ → List ℕ
 entry kind offset size = kind ∷ 0 ∷ (word offset ++ word size)
 
--- "A table of contents of 18 bytes comes first .. The kinds are 1, 2, 3 in that order." Shape: "offset 18, length 4";
--- pages: "offset 22 .. 4 bytes a page"; programs: "directly after .. 5 bytes a program".
+-- RULES 5.3: the table of contents: the shape, the pages and the programs follow it in this order
 abbrev pub contents : ℕ → ℕ → List ℕ
 contents pages programs =
     entry 1 18 4 ++ (entry 2 22 (4 * pages) ++ entry 3 (22 + 4 * pages) (5 * programs))
 
--- "page count, page size exponent, program count, zero"
+-- RULES 5.4: the shape, whose last byte is 0
 abbrev pub shape : ℕ → ℕ → ℕ → List ℕ
 shape pages exponent programs = pages ∷ exponent ∷ programs ∷ 0 ∷ []
 
--- "mode byte (0 user, 1 privileged)"
+-- RULES 5.6: a mode as it is written
 abbrev pub modeByte : Mode → ℕ
 modeByte User = 0
 modeByte Privileged = 1
 
--- "global context, mask, mode byte .. 5 bytes a program"
+-- RULES 5.6: a program as it is written, in 5 bytes
 abbrev pub programBytes : Program → List ℕ
 programBytes p = word (p .context) ++ (word (p .mask) ++ (modeByte (p .mode) ∷ []))
 
--- the image: the table of contents, the shape, "READ and WRITE fields of each page", the programs.
--- "The image ends with the last body."
+-- RULES 5.2: the image: its parts with nothing between them, and nothing after the last
 unfoldable pub bytesOf : Description → List ℕ
 bytesOf d =
     contents (d .pages) (length (d .programs))
     ++ (shape (d .pages) (d .exponent) (length (d .programs))
     ++ (bodies word (d .fields) ++ bodies programBytes (d .programs)))
 
--- the ranges of "The machine", a READ and a WRITE field for each page, and numbers of 16 bits
+-- RULES 5.11: the choices that have an image: ranges as in 1.2, two fields for each page, numbers of 16 bits
 pub record Legal (d : Description) : Type 0 where
   pub pages-least : 1 ≤ d .pages
   pub pages-most : d .pages ≤ 128
@@ -64,18 +62,18 @@ pub record Legal (d : Description) : Type 0 where
   pub contexts-fit : (i : ℕ) → getD (d .programs) i noProgram .context < 65536
   pub masks-fit : (i : ℕ) → getD (d .programs) i noProgram .mask < 65536
 
--- "Places beyond a count or the depth are zero or user after a load.": a list in n places, with z past its end
 module _ {A : Type 0} where
+  -- RULES 5.9: a list in n places, with z, which is zero or user, past its end
   abbrev pub pad : ℕ → A → List A → List A
   pad zero z l = []
   pad (suc n) z [] = z ∷ pad n z []
   pad (suc n) z (x ∷ l) = x ∷ pad n z l
 
--- "program 0 with its three registers, .. flag clear"
+-- RULES 5.9: a program's entry made live, the flag clear
 abbrev pub liveOf : Program → Registers
 liveOf p = record { context = p .context; mask = p .mask; mode = p .mode; pending = false }
 
--- "A loaded machine runs program 0 with its three registers, depth 0, flag clear."
+-- RULES 5.9: the machine that a load gives
 unfoldable pub machineOf : Description → Machine
 machineOf d =
     record {

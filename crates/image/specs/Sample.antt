@@ -1,4 +1,4 @@
--- The sample node (document 01, "Sample node"): its bytes, what they say, and the machine that they load to.
+-- The sample node (RULES 5.12): its bytes, what they say, and the machine that they load to.
 use Prim.Native.Nat.{ℕ}
 use mathlib.Core.Bool.{Bool, false}
 use mathlib.Core.List.{List, [], _∷_, _++_}
@@ -10,8 +10,7 @@ use Rattle.machine.specs.declared.record.Machine.{Machine}
 use Rattle.machine.specs.declared.record.Program.{Program}
 use Rattle.image.specs.Description.{Description}
 
--- "The image, 44 bytes": "01 00 00 12 00 04, 02 00 00 16 00 0C, 03 00 00 22 00 0A, 03 08 02 00, 00 09 00 00, 00 0A 00 02,
--- 00 0C 00 04, 00 07 00 03 00, 00 08 FF FF 00"
+-- RULES 5.12: the 44 bytes, with a line for each row there
 unfoldable pub sampleBytes : List ℕ
 sampleBytes =
     0x01 ∷ 0x00 ∷ 0x00 ∷ 0x12 ∷ 0x00 ∷ 0x04
@@ -25,21 +24,22 @@ sampleBytes =
     ∷ 0x00 ∷ 0x08 ∷ 0xFF ∷ 0xFF ∷ 0x00
     ∷ []
 
--- three pages of 2 to the 8 bytes, with domains 0 and 3, 1 and 3, 2 and 3 in READ and none, 1, 2 in WRITE
+-- RULES 5.12: READ and WRITE of page 0, of page 1 and of page 2
 abbrev pub sampleFields : List ℕ
 sampleFields = 0x0009 ∷ 0x0000 ∷ 0x000A ∷ 0x0002 ∷ 0x000C ∷ 0x0004 ∷ []
 
--- program 0 of domains 0 to 2, and program 1 of domain 3
+-- RULES 5.12: program 0 of domains 0 to 2, whose mask leaves out domain 2, and program 1 of domain 3
 abbrev pub samplePrograms : List Program
 samplePrograms =
     record { context = 0x0007; mask = 0x0003; mode = User }
     ∷ record { context = 0x0008; mask = 0xFFFF; mode = User }
     ∷ []
 
+-- RULES 5.12: all that the bytes say: three pages of 256 bytes
 unfoldable pub sampleDescription : Description
 sampleDescription = record { pages = 3; exponent = 8; fields = sampleFields; programs = samplePrograms }
 
--- the sample node with some fields and live registers, and the rest as loaded
+-- RULES 5.9: the sample node with some fields and live registers, and the rest as loaded
 abbrev pub node : List ℕ → Registers → Machine
 node fields registers =
     record {
@@ -54,9 +54,10 @@ node fields registers =
       table = samplePrograms ++ replicate 6 noProgram;
     }
 
--- program 0's registers, with a mask and a flag
+-- RULES 5.12: program 0's registers, with a mask and a flag
 abbrev pub live : ℕ → Bool → Registers
 live mask pending = record { context = 0x0007; mask = mask; mode = User; pending = pending }
 
+-- RULES 5.9: the machine that the sample loads to
 unfoldable pub sampleMachine : Machine
 sampleMachine = node sampleFields (live 0x0003 false)

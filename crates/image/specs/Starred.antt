@@ -1,4 +1,4 @@
--- The starred cases (document 01, "Sample node"): "Starred cases are for proof; each starts from the loaded sample."
+-- The starred cases: the twelve of RULES 5.13, each made on the machine that the sample node loads to.
 use Prim.Native.Nat.{ℕ}
 use mathlib.Core.Bool.{true, false}
 use mathlib.Core.List.{List, [], _∷_}
@@ -10,61 +10,64 @@ use Rattle.machine.specs.declared.record.Call.the-variants.{Access, Grant, Revo
 use Rattle.image.specs.Load.{loadOf}
 use Rattle.image.specs.Sample.{sampleBytes, sampleFields, sampleMachine, node, live}
 
--- the calls made first, the call, and the number and the machine that it must give
+-- RULES 5.13: the calls made first, the call, and the number and the machine that it must give
 pub record Case : Type 0 where
   pub before : List Call
   pub call : Call
   pub number : ℕ
   pub machine : Machine
 
+-- a case, as a line of the table below
 abbrev row : List Call → Call → ℕ → Machine → Case
 row before call number machine = record { before = before; call = call; number = number; machine = machine }
 
--- "A right is 0 for READ, 1 for WRITE."
+-- RULES 1.5: the number of READ
 abbrev READ : ℕ
 READ = 0
 
+-- RULES 1.5: the number of WRITE
 abbrev WRITE : ℕ
 WRITE = 1
 
--- page 1 starts at address 256
+-- RULES 5.13: the table, in its order; page 1 starts at address 256
 unfoldable pub starred : List Case
 starred =
-    -- "read page 1: 0."
+    -- READ of page 1 has domain 1, which is in the local context
     row [] (Access READ 256) 0 sampleMachine
-    -- "write page 1: 0."
+    -- and so has WRITE
     ∷ row [] (Access WRITE 256) 0 sampleMachine
-    -- "write page 0: 9."
+    -- WRITE of page 0 has no domain
     ∷ row [] (Access WRITE 0) 9 (node sampleFields (live 0x0003 true))
-    -- "read address 767: 9."
+    -- READ of page 2 has domains 2 and 3, neither of them in the local context
     ∷ row [] (Access READ 767) 9 (node sampleFields (live 0x0003 true))
-    -- "read address 768: 3."
+    -- memory ends before this address
     ∷ row [] (Access READ 768) 3 sampleMachine
-    -- "grant READ, page 0, domain 0: 12."
+    -- domain 0 prevails, and its own level is not lower
     ∷ row [] (Grant READ (asPage 0) (asDomain 0)) 12 sampleMachine
-    -- "grant WRITE, page 0, domain 3: 11."
+    -- no domain prevails
     ∷ row [] (Grant WRITE (asPage 0) (asDomain 3)) 11 sampleMachine
-    -- "revoke READ, page 0, domain 3: 0, field 0x0001."
+    -- domain 0 prevails, so that 3 loses the right
     ∷ row [] (Revoke READ (asPage 0) (asDomain 3)) 0
     (node (0x0001 ∷ 0x0000 ∷ 0x000A ∷ 0x0002 ∷ 0x000C ∷ 0x0004 ∷ []) (live 0x0003 false))
-    -- "grant READ, page 2, domain 3: 11;"
+    -- domain 2 prevails, and the mask leaves it out
     ∷ row [] (Grant READ (asPage 2) (asDomain 3)) 11 sampleMachine
-    -- "after mask 0x0007: 0."
+    -- with another mask it is in the local context; the bit was set already
     ∷ row (SetMask 0x0007 ∷ []) (Grant READ (asPage 2) (asDomain 3)) 0 (node sampleFields (live 0x0007 false))
-    -- "grant READ, page 0, domain 16: 5."
+    -- there is no such domain
     ∷ row [] (Grant READ (asPage 0) (asDomain 16)) 5 sampleMachine
-    -- "return: 7."
+    -- the mode is user
     ∷ row [] Return 7 sampleMachine
     ∷ []
 
--- the machine after some calls
+-- RULES 5.13: the machine after the calls made first
 abbrev pub afterCalls : Machine → List Call → Machine
 afterCalls m [] = m
 afterCalls m (call ∷ rest) = afterCalls (callOf m call .machine) rest
 
--- what the definitions give for a case, and what it must be
+-- RULES 5.13: what the definitions give for a case
 abbrev pub outcome : Case → Answered
 outcome c = callOf (afterCalls (loadOf sampleBytes .machine) (c .before)) (c .call)
 
+-- RULES 5.13: what a case must give
 abbrev pub expected : Case → Answered
 expected c = record { number = c .number; machine = c .machine }

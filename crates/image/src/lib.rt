@@ -1,4 +1,4 @@
-// The loader of images (document 01, "The image"): bytes to a number and a machine.
+// The loader of images (RULES, section 5): bytes to a number and a machine.
 pub mod bytes;
 pub mod loader;
 pub mod refusals;

@@ -1,4 +1,4 @@
-// Loading an image (document 01, "The image").
+// Loading an image (RULES, section 5).
 use crate::bytes::byte_at;
 use crate::bytes::context_at;
 use crate::bytes::field_at;

@@ -1,4 +1,4 @@
-// What a load refuses (document 01, "The image"), each condition worked out on any string of bytes.
+// What a load refuses (RULES 5.8), each condition worked out on any string of bytes.
 use crate::bytes::byte_at;
 use crate::bytes::kind_at;
 use crate::bytes::length_at;

@@ -1,6 +1,5 @@
--- The third demand at the sample node (document 01, "Sample node"), computed from the definitions: what a history shows,
--- what is compared, and that the premise is met for program 0 and is missed, and needed, for program 1. And that the premise asks for no
--- more than it says.
+-- The third demand at the sample node (RULES 4.9, 5.12), computed from the definitions: what a history shows, what is compared, and that the
+-- premise is met for program 0 and is missed, and needed, for program 1. And that the premise asks for no more than it says.
 use Prim.Native.Nat.{ℕ, zero, suc, _≤_, _<_}
 use mathlib.Core.Path.{_≡_, refl, sym, ap, _∙_}
 use mathlib.Core.Bool.{true, false}
@@ -113,7 +112,7 @@ pub mixed-observed : observed sample 0 mixed
 unfolding observed observedFrom rightsOf callOf checksOf accessChecks changeChecks effectOf entered switched returned after isSound domainBit prevailing trailingZeros
 mixed-observed = refl
 
--- ---- "The premise of the third demand is met for program 0."
+-- ---- RULES 4.9: the premise for program 0, which is met
 
 -- a context without the prevailing domain does not hold it
 prevails-not : (context level domain : ℕ) → holds context level ≡ false → At level ≡ At domain → holds context domain ≡ true → ⊥
@@ -150,7 +149,7 @@ pub isolated-zero : Isolated sample 0
 unfolding isSound
 isolated-zero = isolation sample 0 (node-started 2 User refl) (omega arith) apart-zero
 
--- ---- "It is not met for program 1: program 0 holds domain 0, prevails on READ of page 0, and may revoke domain 3."
+-- ---- RULES 4.9: the premise for program 1, which fails at READ of page 0: program 0 has the domain that prevails there, and 1 has domain 3
 pub not-apart-one : Apart sample 1 → ⊥
 unfolding Apart prevailing trailingZeros domainBit
 not-apart-one apart =

@@ -1,5 +1,6 @@
--- Computed cases. In the tables of order a call meets two conditions, neighbours in document 01's order as far as a machine can meet both,
--- and the first decides; or it meets one, or none. In the table of effects each call is accepted, and the whole machine after it is written out.
+-- Computed cases. In the tables of order a call meets two conditions, neighbours in the order of RULES, section 3, as far as a machine can
+-- meet both, and the first decides; or it meets one, or none. In the table of effects each call is accepted, and the whole machine after it
+-- is written out.
 use Prim.Native.Nat.{ℕ}
 use mathlib.Core.Path.{_≡_, refl}
 use mathlib.Core.Bool.{Bool, true, false}
@@ -41,7 +42,7 @@ written = paged 8
 abbrev fieldsOf : (r₀ w₀ r₁ w₁ r₂ w₂ : ℕ) → List ℕ
 fieldsOf r₀ w₀ r₁ w₁ r₂ w₂ = r₀ ∷ w₀ ∷ r₁ ∷ w₁ ∷ r₂ ∷ w₂ ∷ replicate 250 0
 
--- those of figure 2 of 001
+-- those of the sample node (RULES 5.12), which are those of figure 2 of Lopriore's paper
 abbrev figure : List ℕ
 figure = fieldsOf 9 0 10 2 12 4
 

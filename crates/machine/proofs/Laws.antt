@@ -26,7 +26,7 @@ other-number : (n k : ℕ) (l : List ℕ) → isIn n l ≡ true → isIn k l ≡
 other-number n k l there none =
     ne-eqb n k (λ same. let z : true ≡ false = rw same at (sym there) ∙ none in true≢false z)
 
--- "The answer to each call, for .. every machine record handed in, is a number listed in document 01"
+-- RULES 9.1, 10.1: a call on any machine answers a number that is listed for it
 pub number-listed : (m : Machine) (call : Call) → isIn (callOf m call .number) (listed call) ≡ true
 unfolding callOf
 number-listed m call = split (isSound m)
@@ -42,7 +42,7 @@ number-listed m call = split (isSound m)
         (own-number m call)
     split false = refl
 
--- "1 if the machine is not sound": it comes exactly there
+-- RULES 2.4: 1 is answered where the machine is not sound, and nowhere else
 pub one-exactly : (m : Machine) (call : Call) → eqb (callOf m call .number) 1 ≡ not (isSound m)
 unfolding callOf
 one-exactly m call = split (isSound m)
@@ -51,18 +51,18 @@ one-exactly m call = split (isSound m)
     split true = other-number (first (checksOf m call)) 1 (0 ∷ ownNumbers call) (own-number m call) (told m call .numbers .no-one)
     split false = refl
 
--- no call on a sound machine is answered by 1 or by 10
+-- RULES 9.2: no call on a sound machine is answered by 1 or by 10
 pub sound-number : (m : Machine) (call : Call) → isSound m ≡ true → isIn (callOf m call .number) soundNumbers ≡ true
 unfolding callOf
 sound-number m call s = rw s (told m call .numbers .given s)
 
--- "A refusal hands the machine back unchanged, save that a violation sets the pending interrupt."
+-- RULES 2.5: a refusal changes nothing, but that 9 sets the flag
 pub refusal-unchanged : (m : Machine) (call : Call) → (callOf m call .number ≡ 0 → ⊥)
     → callOf m call .machine ≡ pick (eqb (callOf m call .number) 9) (violated m) m
 unfolding callOf after
 refusal-unchanged m call refused = rw (ne-eqb (numberOf m call) 0 refused)
 
--- a violation is answered in user mode alone
+-- RULES 3.2: a violation is answered in user mode alone
 pub violation-in-user-mode : (m : Machine) (call : Call) → callOf m call .number ≡ 9 → inPrivilegedMode m ≡ false
 unfolding callOf
 violation-in-user-mode m call nine = split (inPrivilegedMode m) refl
@@ -74,11 +74,11 @@ violation-in-user-mode m call nine = split (inPrivilegedMode m) refl
         (first-avoids 9 ((not (isSound m) ⇒ 1) ∷ checksOf m call) (told m call .numbers .no-nine e)) nine)
     split false e = refl
 
--- "7 in user mode": a call that lists 7, which are return, switch and the kernel's stores, is accepted in privileged mode alone
+-- RULES 2.12: a call that lists 7, which are return, switch and the kernel's stores, is accepted in privileged mode alone
 pub kernel-alone : (m : Machine) (call : Call) → isIn 7 (ownNumbers call) ≡ true → numberOf m call ≡ 0 → inPrivilegedMode m ≡ true
 kernel-alone m call = told m call .kernel
 
--- "A machine is sound when ..": a call hands back a sound machine exactly where it was handed one
+-- RULES 2.7: a call hands back a sound machine exactly where it was handed one
 pub soundness-kept : (m : Machine) (call : Call) → isSound (callOf m call .machine) ≡ isSound m
 unfolding callOf after
 soundness-kept m call = split (isSound m) refl
@@ -121,18 +121,18 @@ pub shape-kept : (m : Machine) (call : Call)
     ≡ m .pages ∷ m .exponent ∷ m .programs ∷ []
 shape-kept m call = kept-by-call shape m call (λ n. told m call .left n .shaped) refl
 
--- "An accepted call leaves such places as it found them": a field past the page count
+-- RULES 1.13: no call changes a field past the page count
 pub fields-left : (m : Machine) (call : Call) (i : ℕ) → 2 * m .pages ≤ i
     → getD (callOf m call .machine .fields) i 0 ≡ getD (m .fields) i 0
 fields-left m call i past = kept-by-call (λ end. getD (end .fields) i 0) m call (λ n. told m call .left n .fields-past i past) refl
 
--- a program's entry past the program count
+-- RULES 1.13: nor a program's entry past the program count
 pub programs-left : (m : Machine) (call : Call) (i : ℕ) → m .programs ≤ i
     → getD (callOf m call .machine .table) i noProgram ≡ getD (m .table) i noProgram
 programs-left m call i past =
     kept-by-call (λ end. getD (end .table) i noProgram) m call (λ n. told m call .left n .programs-past i past) refl
 
--- a stack place past the depth, "save the stack place that an entry fills"
+-- RULES 1.13: nor a stack place past the depth, but for the one that an entry fills
 pub stack-left : (m : Machine) (call : Call) (i : ℕ) → m .depth ≤ i → (call ≡ Enter → i ≡ m .depth → ⊥)
     → getD (callOf m call .machine .saved) i false ≡ getD (m .saved) i false
 stack-left m call i past filled =

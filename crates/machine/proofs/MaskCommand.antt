@@ -22,13 +22,13 @@ mask-taken r bits = split (eqb (maskNumber r) 0)
     split true = refl
     split false = refl
 
--- "answers as below without the check for 1"
+-- RULES 2.11: on a sound machine the two answer the same number
 pub lent-answers : (m : Machine) (bits : ℕ) → isSound m ≡ true
     → callOf m (SetMask bits) .number ≡ maskedOf (m .registers) bits .number
 unfolding callOf checksOf maskedOf
 lent-answers m bits sound = rw sound
 
--- "alters it there"
+-- RULES 2.11: and leave the same registers
 pub lent-alters : (m : Machine) (bits : ℕ) → isSound m ≡ true
     → callOf m (SetMask bits) .machine .registers ≡ maskedOf (m .registers) bits .registers
 unfolding callOf checksOf effectOf after maskedOf

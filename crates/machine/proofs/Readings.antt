@@ -1,5 +1,5 @@
--- Laws that a wrong reading of document 01 breaks, where the definition and the code were changed together: the mask as it was given,
--- what a switch stores, what a return leaves and that a violation sets the flag.
+-- Laws that a wrong reading of the rules breaks, where the definition and the code were changed together: the mask as it was given, what a
+-- switch stores, what a return leaves and that a violation sets the flag.
 use Prim.Native.Nat.{ℕ, _-_}
 use mathlib.Core.Path.{_≡_, ap, _∙_}
 use mathlib.Core.Bool.{true, false}
@@ -21,13 +21,13 @@ done-effect : (m : Machine) (call : Call) → callOf m call .number ≡ 0 → ca
 unfolding callOf after
 done-effect m call n = rw n
 
--- "Then the mask is replaced, including bits outside the global context."
+-- RULES 3.9: the live mask is the given one, with its bits outside the global context
 pub mask-as-given : (m : Machine) (bits : ℕ) → callOf m (SetMask bits) .number ≡ 0
     → callOf m (SetMask bits) .machine .registers .mask ≡ bits
 unfolding effectOf
 mask-as-given m bits n = ap (λ (end : Machine). end .registers .mask) (done-effect m (SetMask bits) n)
 
--- what a switch stores for the program that it leaves: the live global context and mask, and the mode that the interrupt saved
+-- RULES 3.15: what a switch stores for the program that it leaves: the live global context and mask, and the mode that the interrupt saved
 abbrev stored : Machine → Program
 stored m =
     record {
@@ -45,7 +45,7 @@ switch-stores m program long n =
     ap (λ (end : Machine). getD (end .table) (m .current) noProgram) (done-effect m (Switch program) n)
     ∙ getD-set-same (m .table) (m .current) (stored m) noProgram (omega arith)
 
--- "So a switch to the current program changes only its entry."
+-- RULES 3.15: a switch to the program that is current already changes its entry alone
 pub switch-to-current : (m : Machine) → length (m .table) ≡ 8 → callOf m (Switch (m .current)) .number ≡ 0
     → callOf m (Switch (m .current)) .machine
     ≡ withPrograms (m .current)
@@ -57,7 +57,7 @@ switch-to-current m long n =
     done-effect m (Switch (m .current)) n
     ∙ rw (getD-set-same (m .table) (m .current) (stored m) noProgram (omega arith), privileged-back (getD (m .saved) 0 false), set-getD (m .saved) 0 false)
 
--- "Then the last saved mode is restored and its place becomes user."
+-- RULES 3.13: the saved mode is the live one again, and user stands in its place
 pub return-restores : (m : Machine) → length (m .saved) ≡ 8 → callOf m Return .number ≡ 0
     → (callOf m Return .machine .registers .mode ≡ modeWhere (getD (m .saved) (m .depth - 1) false))
     × (getD (callOf m Return .machine .saved) (m .depth - 1) false ≡ false)
@@ -70,7 +70,7 @@ return-restores m long n =
           ∙ getD-set-same (m .saved) (m .depth - 1) false false (omega arith),
     )
 
--- "Only 9 changes anything: it sets the flag."
+-- RULES 3.3: a violation sets the flag
 pub violation-sets-flag : (m : Machine) (call : Call) → callOf m call .number ≡ 9 → callOf m call .machine .registers .pending ≡ true
 unfolding callOf after
 violation-sets-flag m call n = rw n

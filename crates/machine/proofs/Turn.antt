@@ -19,7 +19,7 @@ use Rattle.machine.specs.declared.record.Program.{Program}
 use Rattle.machine.specs.declared.record.Call.the-variants.{Enter, Return, Switch}
 use Rattle.machine.proofs.Sound.{sound-facts, moved-sound}
 
--- "Then the mode is saved, the mode becomes privileged, the flag clears.", "Then the last saved mode is restored and its place becomes user."
+-- RULES 3.11, 3.13: an entry and the return from it: the mode is back, the flag is clear, and the place that was filled is user
 pub record Interrupted (m : Machine) : Type 0 where
   pub entry : callOf m Enter ≡ record { number = 0; machine = entered m }
   pub return :

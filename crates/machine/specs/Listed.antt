@@ -1,4 +1,4 @@
--- The first term's list: "The answer to each call .. is a number listed in document 01".
+-- The numbers that a call may answer (RULES, section 9), which the first term asks for.
 use Prim.Native.Nat.{ℕ}
 use mathlib.Core.Bool.{Bool, false, _||_}
 use mathlib.Core.List.{List, [], _∷_}
@@ -11,7 +11,7 @@ abbrev pub isIn : ℕ → List ℕ → Bool
 isIn n [] = false
 isIn n (x ∷ rest) = eqb n x || isIn n rest
 
--- the numbers that document 01 lists for each call beside 0 and 1, in its order
+-- RULES 9.1: the numbers of each call's own conditions, in their order
 abbrev pub ownNumbers : Call → List ℕ
 ownNumbers (Access right address) = 2 ∷ 3 ∷ 8 ∷ 9 ∷ []
 ownNumbers (Grant right page s) = 2 ∷ 4 ∷ 5 ∷ 6 ∷ 8 ∷ 11 ∷ 12 ∷ []
@@ -25,12 +25,12 @@ ownNumbers (StoreContext bits) = 7 ∷ []
 ownNumbers (StoreMask bits) = 7 ∷ []
 ownNumbers (StoreMode mode) = 17 ∷ 7 ∷ []
 
--- the numbers that document 01 lists for each call
+-- RULES 9.1: all numbers of a call by value: 0 and 1 beside its own
 abbrev pub listed : Call → List ℕ
 listed call = 0 ∷ 1 ∷ ownNumbers call
 
--- the numbers of calls on a sound machine: 1 is for other machines, and 10 is not among them, since the current program of a sound machine
--- is below the program count
+-- RULES 2.4, 9.2: the numbers of calls on a sound machine. 1 is for other machines, and 10 is not among them, since a sound machine's current
+-- program has a table entry.
 abbrev pub soundNumbers : List ℕ
 soundNumbers =
     0 ∷ 2 ∷ 3 ∷ 4 ∷ 5 ∷ 6 ∷ 7 ∷ 8 ∷ 9 ∷ 11 ∷ 12 ∷ 13 ∷ 14 ∷ 15 ∷ 16 ∷ 17 ∷ []

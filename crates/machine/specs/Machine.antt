@@ -1,4 +1,4 @@
--- The machine (document 01, "The machine").
+-- The machine (RULES, section 1).
 use Prim.Native.Nat.{ℕ, _+_, _*_, _^_}
 use mathlib.Core.Bool.{Bool, false, not, _&&_}
 use mathlib.Core.List.{List}
@@ -10,11 +10,11 @@ use Rattle.rules.specs.declared.registers.Registers.{Registers}
 use Rattle.machine.specs.declared.record.Machine.{Machine}
 use Rattle.machine.specs.declared.record.Program.{Program}
 
--- a program's entry in which every number is zero and the mode is user
+-- RULES 1.14, 2.9: an entry of zeros and user mode, which is also what is read past the end of the table
 abbrev pub noProgram : Program
 noProgram = record { context = 0; mask = 0; mode = User }
 
--- "the machine in which every number is zero, every mode user and the flag clear"
+-- RULES 1.14: the all-zero machine
 abbrev pub zero : Machine
 zero =
     record {
@@ -29,31 +29,31 @@ zero =
       table = replicate 8 noProgram;
     }
 
--- "a page has 2 to the e bytes": page count × page size
+-- RULES 1.2, 1.9: page count × page size, the first address that is not in memory
 abbrev pub memorySize : Machine → ℕ
 memorySize m = m .pages * 2 ^ m .exponent
 
--- "the page count (1 to 128); the page size exponent e (5 to 12 ..); .. the depth (0 to 8) ..; the program count (1 to 8)"
+-- RULES 1.11: the ranges of the counts, the exponent and the depth
 abbrev pub rangesHold : Machine → Bool
 rangesHold m =
     leb 1 (m .pages) && leb (m .pages) 128 && leb 5 (m .exponent) && leb (m .exponent) 12 && leb (m .depth) 8
     && leb 1 (m .programs) && leb (m .programs) 8
 
--- "A machine is sound when these ranges hold, page count × page size is at most 65,536, the current program is below
--- the program count, and the flag is not set in privileged mode."
+-- RULES 1.11, 1.12: all that soundness asks of a machine, and no more
 unfoldable pub isSound : Machine → Bool
 isSound m =
     rangesHold m && leb (memorySize m) 65536 && ltb (m .current) (m .programs)
     && not (m .registers .pending && isPrivileged (m .registers .mode))
 
--- "two 16-bit fields for each page, READ and WRITE": the field of right r to page p is the one at 2p + r
+-- RULES 1.5: where the field of a right to a page stands
 abbrev pub placeOf : ℕ → ℕ → ℕ
 placeOf right page = 2 * page + right
 
+-- RULES 1.5, 2.9: the field of a right to a page; past the last place it reads as 0
 abbrev pub fieldOf : Machine → ℕ → ℕ → ℕ
 fieldOf m right page = getD (m .fields) (placeOf right page) 0
 
--- the machine with other fields, registers, stack or programs
+-- RULES 3.1: the machine with other fields; the rest stays
 abbrev pub withFields : List ℕ → Machine → Machine
 withFields fields m =
     record {
@@ -68,6 +68,7 @@ withFields fields m =
       table = m .table;
     }
 
+-- RULES 3.1: the machine with other live registers
 abbrev pub withRegisters : Registers → Machine → Machine
 withRegisters registers m =
     record {
@@ -82,7 +83,7 @@ withRegisters registers m =
       table = m .table;
     }
 
--- "a stack of saved modes": at each place whether the mode saved there is privileged
+-- RULES 3.1: the machine with another depth and other saved modes, each true for privileged
 abbrev pub withStack : ℕ → List Bool → Machine → Machine
 withStack depth saved m =
     record {
@@ -97,6 +98,7 @@ withStack depth saved m =
       table = m .table;
     }
 
+-- RULES 3.1: the machine with another current program and another table
 abbrev pub withPrograms : ℕ → List Program → Machine → Machine
 withPrograms current table m =
     record {
@@ -111,6 +113,6 @@ withPrograms current table m =
       table = table;
     }
 
--- the machine of a caller that keeps the fields and the stack of saved modes beside it and lends them to its calls
+-- RULES 2.10: lent fields and a lent stack stand in for the machine's own
 abbrev pub withLent : List ℕ → List Bool → Machine → Machine
 withLent fields saved m = withFields fields (withStack (m .depth) saved m)

@@ -1,4 +1,4 @@
-// The eleven calls (document 01, "Calls and what each refuses"). Beside each public method stands the call without the check for 1, for a
+// The eleven calls (RULES, sections 2 and 3). Beside each public method stands the call without the check for 1 (RULES 2.8), for a
 // caller that knows its machine to be sound: by value (`.._unchecked`), or on a part of the machine that the caller keeps beside it and
 // lends (`.._lent`), so that a loop over calls need not carry fields and stack in its machine. The public method is that call behind one test
 // for soundness, written out in each: a helper that hands the machine on costs copies of it (docs/PERFORMANCE.md). In the calls themselves
@@ -66,7 +66,7 @@ fn below(depth: u8) -> usize
     (depth - 1) as usize
 }
 
-// The mode of a number.
+// The mode of a number (RULES 3.23).
 pub fn mode_of(number: u16) -> Mode
     ensures { λ r. ⌜ r ≡ modeOf number ⌝ }
 {
@@ -116,7 +116,7 @@ impl Machine {
         )
     }
 
-    // The access on lent fields. The machine that comes back keeps its own.
+    // The access on lent fields (RULES 2.10). The machine that comes back keeps its own.
     pub fn access_lent(mut self, fields: &[u16], right: u8, address: u32) -> Answered
         ensures { λ r. ⌜ r ≡ keeping self (uncheckedOf (withFields (now (fields .entry)) self) (Call.Access right address)) ⌝ }
     {
@@ -132,6 +132,7 @@ impl Machine {
         }
     }
 
+    // Access to an address for a right (RULES 3.2, 3.3).
     pub fn access(self, right: u8, address: u32) -> Answered
         ensures { λ r. ⌜ r ≡ callOf self (Call.Access right address) ⌝ }
     {
@@ -162,7 +163,7 @@ impl Machine {
         )
     }
 
-    // The grant or the revocation on lent fields, which it alters there: its number.
+    // The grant or the revocation on lent fields, which it alters there: its number (RULES 2.10).
     pub fn change_lent(
         self,
         fields: &mut [u16],
@@ -182,6 +183,7 @@ impl Machine {
         number
     }
 
+    // Grant of a right to a page to a domain (RULES 3.4, 3.5).
     pub fn grant(self, right: u8, page: Page, domain: Domain) -> Answered
         ensures { λ r. ⌜ r ≡ callOf self (Call.Grant right page domain) ⌝ }
     {
@@ -196,6 +198,7 @@ impl Machine {
         self.answered_with(number, fields)
     }
 
+    // Revoke of a right to a page from a domain (RULES 3.6, 3.7).
     pub fn revoke(self, right: u8, page: Page, domain: Domain) -> Answered
         ensures { λ r. ⌜ r ≡ callOf self (Call.Revoke right page domain) ⌝ }
     {
@@ -210,6 +213,7 @@ impl Machine {
         self.answered_with(number, fields)
     }
 
+    // The mask command, without the check for 1 (RULES 2.8).
     pub fn set_mask_unchecked(mut self, mask: u16) -> Answered
         ensures { λ r. ⌜ r ≡ uncheckedOf self (Call.SetMask mask) ⌝ }
     {
@@ -225,6 +229,7 @@ impl Machine {
         }
     }
 
+    // The mask command (RULES 3.8, 3.9). `set_mask_lent` is the one on a register record.
     pub fn set_mask(self, mask: u16) -> Answered
         ensures { λ r. ⌜ r ≡ callOf self (Call.SetMask mask) ⌝ }
     {
@@ -237,7 +242,7 @@ impl Machine {
         self.set_mask_unchecked(mask)
     }
 
-    // Interrupt entry on a lent stack, which it alters there.
+    // Interrupt entry on a lent stack, which it alters there (RULES 2.10).
     pub fn enter_lent(mut self, saved: &mut [bool]) -> Answered
         ensures { λ r. ⌜ r ≡ keeping self (uncheckedOf (withStack (self .depth) (now (saved .entry)) self) Call.Enter) ⌝ }
         ensures { λ _. ⌜ now (saved .exit) ≡ uncheckedOf (withStack (self .depth) (now (saved .entry)) self) Call.Enter .machine .saved ⌝ }
@@ -259,7 +264,7 @@ impl Machine {
         }
     }
 
-    // Interrupt entry.
+    // Interrupt entry (RULES 3.10, 3.11).
     pub fn enter(self) -> Answered
         ensures { λ r. ⌜ r ≡ callOf self Call.Enter ⌝ }
     {
@@ -274,7 +279,7 @@ impl Machine {
         answer.with_saved(saved)
     }
 
-    // Return from an interrupt on a lent stack, which it alters there.
+    // Return from an interrupt on a lent stack, which it alters there (RULES 2.10).
     pub fn leave_lent(mut self, saved: &mut [bool]) -> Answered
         ensures { λ r. ⌜ r ≡ keeping self (uncheckedOf (withStack (self .depth) (now (saved .entry)) self) Call.Return) ⌝ }
         ensures { λ _. ⌜ now (saved .exit) ≡ uncheckedOf (withStack (self .depth) (now (saved .entry)) self) Call.Return .machine .saved ⌝ }
@@ -297,7 +302,7 @@ impl Machine {
         }
     }
 
-    // Return from an interrupt.
+    // Return from an interrupt (RULES 3.12, 3.13).
     pub fn leave(self) -> Answered
         ensures { λ r. ⌜ r ≡ callOf self Call.Return ⌝ }
     {
@@ -312,7 +317,7 @@ impl Machine {
         answer.with_saved(saved)
     }
 
-    // Switch to a program on a lent stack, which it alters there.
+    // Switch to a program on a lent stack, which it alters there (RULES 2.10).
     pub fn switch_lent(mut self, saved: &mut [bool], program: u16) -> Answered
         ensures { λ r. ⌜ r ≡ keeping self (uncheckedOf (withStack (self .depth) (now (saved .entry)) self) (Call.Switch program)) ⌝ }
         ensures { λ _. ⌜ now (saved .exit) ≡ uncheckedOf (withStack (self .depth) (now (saved .entry)) self) (Call.Switch program) .machine .saved ⌝ }
@@ -350,7 +355,7 @@ impl Machine {
         }
     }
 
-    // Switch to a program.
+    // Switch to a program (RULES 3.14, 3.15).
     pub fn switch_to(self, program: u16) -> Answered
         ensures { λ r. ⌜ r ≡ callOf self (Call.Switch program) ⌝ }
     {
@@ -365,7 +370,7 @@ impl Machine {
         answer.with_saved(saved)
     }
 
-    // The kernel's store of a field on lent fields, which it alters there: its number.
+    // The kernel's store of a field on lent fields, which it alters there: its number (RULES 2.10).
     pub fn store_lent(self, fields: &mut [u16], right: u8, page: Page, bits: u16) -> u8
         ensures { λ r. ⌜ r ≡ uncheckedOf (withFields (now (fields .entry)) self) (Call.StoreField right page bits) .number ⌝ }
         ensures { λ _. ⌜ now (fields .exit) ≡ uncheckedOf (withFields (now (fields .entry)) self) (Call.StoreField right page bits) .machine .fields ⌝ }
@@ -382,7 +387,7 @@ impl Machine {
         number
     }
 
-    // The kernel's store of a field.
+    // The kernel's store of a field (RULES 3.16, 3.17).
     pub fn store_field(self, right: u8, page: Page, bits: u16) -> Answered
         ensures { λ r. ⌜ r ≡ callOf self (Call.StoreField right page bits) ⌝ }
     {
@@ -405,7 +410,7 @@ impl Machine {
         register_number(!registers.privileged())
     }
 
-    // The kernel's store of the global context.
+    // The kernel's store of the global context, without the check for 1 (RULES 2.8).
     pub fn store_context_unchecked(mut self, bits: u16) -> Answered
         ensures { λ r. ⌜ r ≡ uncheckedOf self (Call.StoreContext bits) ⌝ }
     {
@@ -419,6 +424,7 @@ impl Machine {
         }
     }
 
+    // The kernel's store of the global context (RULES 3.18, 3.19).
     pub fn store_context(self, bits: u16) -> Answered
         ensures { λ r. ⌜ r ≡ callOf self (Call.StoreContext bits) ⌝ }
     {
@@ -431,7 +437,7 @@ impl Machine {
         self.store_context_unchecked(bits)
     }
 
-    // The kernel's store of the mask.
+    // The kernel's store of the mask, without the check for 1 (RULES 2.8).
     pub fn store_mask_unchecked(mut self, bits: u16) -> Answered
         ensures { λ r. ⌜ r ≡ uncheckedOf self (Call.StoreMask bits) ⌝ }
     {
@@ -445,6 +451,7 @@ impl Machine {
         }
     }
 
+    // The kernel's store of the mask (RULES 3.20, 3.21).
     pub fn store_mask(self, bits: u16) -> Answered
         ensures { λ r. ⌜ r ≡ callOf self (Call.StoreMask bits) ⌝ }
     {
@@ -457,7 +464,7 @@ impl Machine {
         self.store_mask_unchecked(bits)
     }
 
-    // The kernel's store of the mode.
+    // The kernel's store of the mode, without the check for 1 (RULES 2.8).
     pub fn store_mode_unchecked(mut self, mode: u16) -> Answered
         ensures { λ r. ⌜ r ≡ uncheckedOf self (Call.StoreMode mode) ⌝ }
     {
@@ -471,6 +478,7 @@ impl Machine {
         }
     }
 
+    // The kernel's store of the mode (RULES 3.22, 3.23).
     pub fn store_mode(self, mode: u16) -> Answered
         ensures { λ r. ⌜ r ≡ callOf self (Call.StoreMode mode) ⌝ }
     {

@@ -1,5 +1,5 @@
-// The machine and its calls (document 01): every call takes the machine by value and gives it back with its answer; the mask
-// command is also there on the register record that the kernel lends.
+// The machine and its calls (RULES, sections 1 to 3): a call by value gives its number and the machine after it; the mask command is
+// also there on the register record that the kernel lends.
 pub mod calls;
 pub mod lent;
 pub mod record;

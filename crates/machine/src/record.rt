@@ -1,4 +1,4 @@
-// The machine (document 01, "The machine").
+// The machine (RULES, section 1).
 use rules::registers::Mode;
 use rules::registers::Registers;
 ghost use mathlib.Core.Path.{_≡_};
@@ -10,20 +10,20 @@ ghost use Rattle.rules.specs.Refusals.{pick};
 ghost use Rattle.rules.specs.Registers.{isPrivileged, modeWhere};
 ghost use Rattle.machine.specs.Machine.{zero, isSound, placeOf, noProgram};
 
-// What is stored for a program: global context, mask and mode.
+// What is stored for a program: global context, mask and mode (RULES 1.2).
 pub struct Program {
     pub context: u16,
     pub mask: u16,
     pub mode: Mode,
 }
 
-// A page number.
+// A page number, which cannot be passed for a domain number (RULES 1.10).
 pub struct Page(pub u16);
 
 // A domain number.
 pub struct Domain(pub u16);
 
-// The field of a right r to page p stands at 2p + r. A saved mode is kept as whether it is privileged.
+// The parts of RULES 1.2. The field of a right r to page p stands at 2p + r. A saved mode is kept as whether it is privileged.
 pub struct Machine {
     pub pages: u16,
     pub exponent: u8,
@@ -36,13 +36,13 @@ pub struct Machine {
     pub table: [Program; 8],
 }
 
-// What a call gives back: its number and the machine after it.
+// What a call gives back: its number and the machine after it (RULES 2.1).
 pub struct Answered {
     pub number: u8,
     pub machine: Machine,
 }
 
-// One of the eleven calls.
+// One of the eleven calls (RULES 2.1), with arguments of the widths of RULES 2.6.
 pub enum Call {
     Access(u8, u32),
     Grant(u8, Page, Domain),
@@ -58,6 +58,7 @@ pub enum Call {
 }
 
 impl Machine {
+    // The limits (RULES 1.1).
     pub const DOMAINS: u16 = 16;
 
     pub const PAGES: u16 = 128;
@@ -66,7 +67,7 @@ impl Machine {
 
     pub const DEPTH: u8 = 8;
 
-    // The machine in which every number is zero, every mode user and the flag clear.
+    // The all-zero machine, which a refused load gives (RULES 1.14, 5.10).
     pub fn zero() -> Machine
         ensures { λ r. ⌜ r ≡ zero ⌝ }
     {
@@ -92,6 +93,7 @@ impl Machine {
         }
     }
 
+    // Whether the machine is sound (RULES 1.11), which every call by value asks first.
     pub fn sound(self) -> bool
         ensures { λ r. ⌜ r ≡ isSound self ⌝ }
     {
@@ -119,7 +121,7 @@ pub fn memory_size(pages: u16, exponent: u8) -> u32
     0
 }
 
-// The page of an address, of any exponent: past 31 places nothing is left of an address.
+// The page of an address (RULES 1.9), of any exponent: past 31 places nothing is left of an address.
 pub fn page_of(address: u32, exponent: u8) -> u32
     ensures { λ r. ⌜ r ≡ address / 2 ^ exponent ⌝ }
 {
@@ -129,7 +131,7 @@ pub fn page_of(address: u32, exponent: u8) -> u32
     0
 }
 
-// Where the field of a right to a page stands, of any right and page.
+// Where the field of a right to a page stands (RULES 1.5), of any right and page.
 pub fn place(right: u8, page: u32) -> usize
     ensures { λ r. ⌜ r ≡ placeOf right page ⌝ }
 {

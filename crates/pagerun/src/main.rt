@@ -1,5 +1,5 @@
-// `pagerun` (document 01, "The run program"): reads standard input to its end, or to the first byte past the most that is taken, and
-// writes the text of the run. What the text is, `text::text_of` says and proves.
+// `pagerun` (RULES, section 8): reads standard input to its end, or to the first byte past the most that is taken, and writes the text of the
+// run. What the text is, `text::text_of` says and proves.
 use libc::STDIN_FILENO;
 use libc::STDOUT_FILENO;
 

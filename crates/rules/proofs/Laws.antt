@@ -14,7 +14,7 @@ use Rattle.rules.specs.declared.registers.Mode.the-variants.{User, Privi
 use Rattle.rules.specs.declared.registers.Registers.{Registers}
 use Rattle.rules.specs.declared.domains.Prevailing.the-variants.{Absent, At}
 
--- "bit s is domain s", for the sixteen domains and no other number
+-- RULES 1.6: each of the sixteen domains has a bit, and no other number has one
 pub domain-bit : (s : ℕ) → s < 16 → domainBit s ≡ 2 ^ s
 unfolding domainBit
 domain-bit s h = rw (lt-ltb s 16 h)
@@ -23,12 +23,12 @@ pub no-domain-bit : (s : ℕ) → 16 ≤ s → domainBit s ≡ 0
 unfolding domainBit
 no-domain-bit s h = rw (le-ltb s 16 h)
 
--- "An empty field has none": no context holds the prevailing domain of an empty field
+-- RULES 1.8: no domain prevails in an empty field, so that no local context has it
 pub empty-field-refused : (local : ℕ) → isOutside (prevailing 0) local ≡ true
 unfolding prevailing
 empty-field-refused local = refl
 
--- a domain does not act on its own level
+-- RULES 3.4: a domain does not act on its own level
 pub own-level-refused : (s : ℕ) → isNotLower (At s) s ≡ true
 own-level-refused s = le-leb s s (le-refl s)
 
@@ -46,13 +46,13 @@ pub bit-cases :
 unfolding domainBit
 bit-cases = refl
 
--- "Then the mask is replaced, including bits outside the global context": the mask as it was given, and nothing else
+-- RULES 3.9: the mask as it was given, and nothing else
 pub mask-replaced : (r : Registers) (bits : ℕ) → maskedOf r bits .number ≡ 0
     → maskedOf r bits .registers ≡ record { context = r .context; mask = bits; mode = r .mode; pending = r .pending }
 unfolding maskedOf
 mask-replaced r bits n = rw n
 
--- a mask command that is refused leaves the record as it was
+-- RULES 2.11: a mask command that is refused leaves the record as it was
 pub mask-refused : (r : Registers) (bits : ℕ) → (maskedOf r bits .number ≡ 0 → ⊥) → maskedOf r bits .registers ≡ r
 unfolding maskedOf
 mask-refused r bits n = rw (ne-eqb (maskedOf r bits .number) 0 n)
@@ -66,7 +66,7 @@ pub privileged-back : (privileged : Bool) → isPrivileged (modeWhere privileged
 privileged-back true = refl
 privileged-back false = refl
 
--- "6 in privileged mode; 8", computed for each mode and flag, also for a record that no sound machine holds
+-- RULES 2.11: the number for each mode and flag, also for a record that no sound machine has
 pub mask-number-cases :
     map (λ (r : Registers). maskedOf r 12 .number)
     (record { context = 7; mask = 3; mode = User; pending = false }

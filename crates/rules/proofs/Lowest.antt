@@ -50,7 +50,7 @@ held-digit field s known = rw (domain-bit s known) (ap (bitAnd field) alone ∙ 
     alone : 2 ^ s ≡ 2 ^ (1 + s) - 2 ^ s
     alone = omega (arith, pow-add 2 1 s)
 
--- "The prevailing domain of a right to a page is the lowest-numbered bit set in the field for that right."
+-- RULES 1.8: where a domain prevails, the field holds it and none of lower number
 pub prevailing-lowest : (field d : ℕ) → field < 65536 → prevailing field ≡ At d
     → (d < 16) × (holds field d ≡ true) × ((s : ℕ) → s < d → holds field s ≡ false)
 unfolding prevailing
@@ -69,7 +69,7 @@ prevailing-lowest field d small at = split (eqb field 0) refl at
           λ s below. ap not (eq-eqb _ 0 (held-digit field s (omega (arith, lowest .0)) ∙ rw (below-unset 16 field s (omega arith)) (zero-mul (2 ^ s)))),
         )
 
--- "An empty field has none.", and any other has one
+-- RULES 1.8: where none prevails, the field is empty
 pub prevailing-absent : (field : ℕ) → prevailing field ≡ Absent → field ≡ 0
 unfolding prevailing
 prevailing-absent field none = split (eqb field 0) refl none

@@ -1,4 +1,4 @@
--- Domains as bits of a field or a context (document 01, "The machine").
+-- Domains as bits of a field or a context, and the domain that prevails in a field (RULES, section 1).
 use Prim.Native.Nat.{ℕ, _-_, _^_}
 use mathlib.Core.Bool.{Bool, true, not}
 use lib.Bits.{bitAnd, bitOr}
@@ -8,36 +8,36 @@ use Rattle.rules.specs.Refusals.{pick}
 use Rattle.rules.specs.declared.domains.Prevailing.{Prevailing}
 use Rattle.rules.specs.declared.domains.Prevailing.the-variants.{Absent, At}
 
--- "Sixteen domains .. are the limits": 0 to 15
+-- RULES 1.1, 1.6: there are sixteen domains, and a number above 15 is none
 abbrev pub isDomain : ℕ → Bool
 isDomain s = ltb s 16
 
--- "bit s is domain s": the 16-bit number with bit s set alone, and no bit where there is no such domain
+-- RULES 1.6: the bit of domain s, alone in a number of 16 bits; what is no domain has no bit
 unfoldable pub domainBit : ℕ → ℕ
 domainBit s = pick (isDomain s) (2 ^ s) 0
 
--- domain s is in a field or a context
+-- RULES 1.6: a field or a context holds s where its bit is set
 abbrev pub holds : ℕ → ℕ → Bool
 holds set s = not (eqb (bitAnd set (domainBit s)) 0)
 
--- a field with bit s set, and with bit s cleared
+-- RULES 3.5: a field after a grant to s
 abbrev pub withBit : ℕ → ℕ → ℕ
 withBit field s = bitOr field (domainBit s)
 
+-- RULES 3.7: a field after a revocation from s
 abbrev pub withoutBit : ℕ → ℕ → ℕ
 withoutBit field s = bitAnd field (65535 - domainBit s)
 
--- "The prevailing domain of a right to a page is the lowest-numbered bit set in the field for that right. It is found
--- from the whole field, not from the part in a context. An empty field has none."
+-- RULES 1.8: the lowest-numbered domain that the whole field holds, no context being looked at; an empty field has none
 unfoldable pub prevailing : ℕ → Prevailing
 prevailing field = pick (eqb field 0) Absent (At (trailingZeros 16 field))
 
--- "the prevailing domain is absent or outside the local context"
+-- RULES 3.4, for 11: no domain prevails, or the local context does not hold the one that does
 abbrev pub isOutside : Prevailing → ℕ → Bool
 isOutside Absent local = true
 isOutside (At domain) local = not (holds local domain)
 
--- "s is not greater than the prevailing domain"; where there is none, no s is
+-- RULES 3.4, for 12: s is the prevailing domain itself, or has a lower number. Where none prevails 11 has come before.
 abbrev pub isNotLower : Prevailing → ℕ → Bool
 isNotLower Absent s = true
 isNotLower (At domain) s = leb s domain

@@ -1,4 +1,4 @@
--- The live registers (document 01, "The machine").
+-- The live registers (RULES, section 1), and the mask command on a record of them (RULES 2.11).
 use Prim.Native.Nat.{ℕ}
 use mathlib.Core.Bool.{Bool, true, false}
 use mathlib.Core.List.{List, [], _∷_}
@@ -10,40 +10,43 @@ use Rattle.rules.specs.declared.registers.Mode.the-variants.{User, Privi
 use Rattle.rules.specs.declared.registers.Registers.{Registers}
 use Rattle.rules.specs.declared.registers.Masked.{Masked}
 
--- "the live mode (user or privileged)"
+-- RULES 1.2: a mode is user or privileged
 abbrev pub isPrivileged : Mode → Bool
 isPrivileged User = false
 isPrivileged Privileged = true
 
--- a saved mode, of which the stack keeps whether it is privileged
+-- RULES 2.10: the mode in a place of the stack, which is true for privileged
 abbrev pub modeWhere : Bool → Mode
 modeWhere privileged = pick privileged Privileged User
 
--- "The local context is the bitwise AND of global context and mask (001, 2.1)."
+-- RULES 1.7: what the mask lets through of the global context
 abbrev pub localContext : Registers → ℕ
 localContext r = bitAnd (r .context) (r .mask)
 
--- the registers with another global context, mask, mode or flag
+-- RULES 3.1: the registers with another global context; the rest stays
 abbrev pub withContext : ℕ → Registers → Registers
 withContext bits r = record { context = bits; mask = r .mask; mode = r .mode; pending = r .pending }
 
+-- RULES 3.1: the registers with another mask
 abbrev pub withMask : ℕ → Registers → Registers
 withMask bits r = record { context = r .context; mask = bits; mode = r .mode; pending = r .pending }
 
+-- RULES 3.1: the registers with another mode
 abbrev pub withMode : Mode → Registers → Registers
 withMode mode r = record { context = r .context; mask = r .mask; mode = mode; pending = r .pending }
 
+-- RULES 3.1: the registers with the flag set or clear
 abbrev pub withPending : Bool → Registers → Registers
 withPending pending r = record { context = r .context; mask = r .mask; mode = r .mode; pending = pending }
 
--- "Mask command (16 bits). 1; 6 in privileged mode; 8.": its conditions after the one for 1
+-- RULES 3.8: the mask command's own conditions
 abbrev pub maskChecks : Registers → List Check
 maskChecks r = (isPrivileged (r .mode) ⇒ 6) ∷ (r .pending ⇒ 8) ∷ []
 
--- "lends it to the mask command, which .. answers as below without the check for 1"
+-- RULES 2.11: the number of the mask command on a lent record, where there is no 1
 abbrev pub maskNumber : Registers → ℕ
 maskNumber r = first (maskChecks r)
 
--- "which alters it there": "Then the mask is replaced, including bits outside the global context."
+-- RULES 2.11, 3.9: the mask in the record becomes the given one, every bit of it; a refusal leaves the record as it was
 unfoldable pub maskedOf : Registers → ℕ → Masked
 maskedOf r bits = record { number = maskNumber r; registers = pick (eqb (maskNumber r) 0) (withMask bits r) r }

@@ -1,4 +1,4 @@
-// The number of each call from its conditions, in document 01's order: the first condition that is met decides.
+// The number of each call from its own conditions (RULES, section 3): that of the first one that is met.
 // The test for 1, which stands before them all, is the machine's.
 ghost use mathlib.Core.Path.{_≡_};
 ghost use mathlib.Core.List.{[], _∷_};

@@ -1,14 +1,14 @@
-// Domains as bits of a field or a context, and the prevailing domain of a field (document 01, "The machine").
+// Domains as bits of a field or a context, and the domain that prevails in a field (RULES, section 1).
 ghost use mathlib.Core.Path.{_≡_};
 ghost use Rattle.rules.specs.Domains.{domainBit, holds, withBit, withoutBit, prevailing, isOutside, isNotLower};
 
-// The prevailing domain of a right to a page.
+// The domain that prevails in a field, if there is one (RULES 1.8): no number stands in for a domain that is not there.
 pub enum Prevailing {
     Absent,
     At(u16),
 }
 
-// The number with bit s set alone, 0 where there is no domain s.
+// The number with bit s set alone, 0 where there is no domain s (RULES 1.6).
 pub fn domain_bit(s: u16) -> u16
     ensures { λ r. ⌜ r ≡ domainBit s ⌝ }
 {
@@ -34,7 +34,7 @@ pub fn without_bit(field: u16, s: u16) -> u16
     field & (65535 - domain_bit(s))
 }
 
-// The lowest-numbered bit set.
+// The lowest-numbered domain of the whole field (RULES 1.8).
 pub fn prevailing_of(field: u16) -> Prevailing
     ensures { λ r. ⌜ r ≡ prevailing field ⌝ }
 {

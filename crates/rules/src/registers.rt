@@ -1,4 +1,4 @@
-// The live registers (document 01, "The machine").
+// The live registers (RULES, section 1), and the mask command on a record of them (RULES 2.11).
 use crate::decisions::mask_number;
 ghost use mathlib.Core.Path.{_≡_};
 ghost use Rattle.rules.specs.Refusals.{pick};
@@ -10,7 +10,7 @@ pub enum Mode {
     Privileged,
 }
 
-// The register record: global context, mask, mode and the pending flag.
+// The register record (RULES 1.3): global context, mask, mode and the pending flag.
 pub struct Registers {
     pub context: u16,
     pub mask: u16,
@@ -53,7 +53,7 @@ impl Registers {
         mode.privileged()
     }
 
-    // The local context: the part of the global context that the mask lets through.
+    // The local context: the part of the global context that the mask lets through (RULES 1.7).
     pub fn local(self) -> u16
         ensures { λ r. ⌜ r ≡ localContext self ⌝ }
     {
@@ -115,7 +115,7 @@ impl Registers {
     }
 }
 
-// The mask command on a register record, without the check for 1.
+// The mask command on a register record, without the check for 1 (RULES 2.11).
 pub fn replace_mask(registers: Registers, mask: u16) -> Masked
     ensures { λ r. ⌜ r ≡ maskedOf registers mask ⌝ }
 {

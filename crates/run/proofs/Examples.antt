@@ -1,4 +1,4 @@
--- Computed examples: each kind of record with parts that differ, and the sample node's answers, from document 01.
+-- Computed examples: each kind of record with parts that differ, and the sample node's answers (RULES 6.5, 6.11).
 use Prim.Native.Nat.{ℕ}
 use mathlib.Core.Path.{_≡_, refl, ap}
 use mathlib.Core.List.{List, [], _∷_, _++_, map}
@@ -19,7 +19,7 @@ use Rattle.run.specs.declared.records.Decoded.the-variants.{Known, Unkno
 abbrev record-of : ℕ → List ℕ → List ℕ
 record-of kind rest = kind ∷ 1 ∷ 2 ∷ 3 ∷ 4 ∷ 5 ∷ rest
 
--- "Kinds: 1 access, address A × 65,536 + B; 2 grant and 3 revoke, page A, domain B; ..", and a remainder that is no call
+-- RULES 6.5, 6.6, 6.9: the eleven kinds, the two next to them, and a remainder that is no record
 pub kinds-read :
     callsOf
     (record-of 0 (record-of 1 (record-of 2 (record-of 3 (record-of 4 (record-of 5 (record-of 6 (record-of 7 (record-of 8
@@ -41,8 +41,7 @@ pub kinds-read :
 unfolding callsOf callOfKind
 kinds-read = refl
 
--- "Input to `pagerun`: 00 2C, the image, then 01 00 00 00 00 10; 01 00 00 00 02 00; 04 00 00 00 00 07; 05 00 00 00 00 00;
--- 07 00 00 00 00 01; 06 00 00 00 00 00; 01 00 00 00 02 00; 01 01 00 00 00 00."
+-- RULES 6.11: the sample input, with a line for each record there
 unfoldable pub sampleInput : List ℕ
 sampleInput =
     0x00 ∷ 0x2C ∷ (sampleBytes
@@ -56,18 +55,18 @@ sampleInput =
     ∷ 0x01 ∷ 0x01 ∷ 0x00 ∷ 0x00 ∷ 0x00 ∷ 0x00
     ∷ []))
 
--- "Whole output, one item a line: `load 0`, `1 0`, `2 9`, `3 8`, `4 0`, `5 0`, `6 0`, `7 0`, `8 9`."
+-- RULES 6.11: its answers
 pub sample-answered : answersOf sampleInput ≡ 0 ∷ 0 ∷ 9 ∷ 8 ∷ 0 ∷ 0 ∷ 0 ∷ 0 ∷ 9 ∷ []
 unfolding sampleInput sampleBytes callAnswers answersFrom callsOf callOfKind stepBy loadOf loadChecks lengthTests kindTests shapeEntryTests shapeTests bodyTests describe machineOf callOf checksOf accessChecks changeChecks effectOf entered returned switched after isSound prevailing domainBit trailingZeros
 sample-answered = refl
 
--- "a remainder is passed over"
+-- RULES 6.9: a remainder has no answer
 pub remainder-answered : answersOf (sampleInput ++ 0x01 ∷ []) ≡ 0 ∷ 0 ∷ 9 ∷ 8 ∷ 0 ∷ 0 ∷ 0 ∷ 0 ∷ 9 ∷ []
 unfolding sampleInput sampleBytes callAnswers answersFrom callsOf callOfKind stepBy loadOf loadChecks lengthTests kindTests shapeEntryTests shapeTests bodyTests describe machineOf callOf checksOf accessChecks changeChecks effectOf entered returned switched after isSound prevailing domainBit trailingZeros
 remainder-answered = refl
 
--- "A record is read as one of eleven calls or answered 18.", and then leaves the machine alone: the access after it is allowed. "that many image
--- bytes (fewer if the input ends)", "Input under 2 bytes counts as an empty image", "After a refused load that one answer is all there is."
+-- RULES 6.6: an unknown record leaves the machine alone, so that the access after it is allowed. RULES 6.2, 6.3, 6.8: a declared length of
+-- one byte more and of one byte less than the image has, and inputs of 1 byte and of none.
 pub ends-answered :
     map answersOf
     ((0x00 ∷ 0x2C ∷ (sampleBytes ++ (0x0C ∷ 0x00 ∷ 0x00 ∷ 0x00 ∷ 0x00 ∷ 0x00 ∷ 0x01 ∷ 0x00 ∷ 0x00 ∷ 0x00 ∷ 0x00 ∷ 0x10 ∷ [])))
@@ -80,12 +79,12 @@ pub ends-answered :
 unfolding sampleBytes callAnswers answersFrom callsOf callOfKind stepBy loadOf loadChecks lengthTests kindTests shapeEntryTests shapeTests bodyTests describe machineOf callOf checksOf accessChecks changeChecks effectOf entered returned switched after isSound prevailing domainBit trailingZeros
 ends-answered = refl
 
--- "If the buffer is too short for all of them, .. the count is 0": the sample's nine answers in buffers about as long
+-- RULES 7.4: the sample's nine answers in buffers about as long
 pub room-sent : map (sent sampleInput) (0 ∷ 8 ∷ 9 ∷ 10 ∷ []) ≡ [] ∷ [] ∷ answersOf sampleInput ∷ answersOf sampleInput ∷ []
 unfolding sent sampleInput sampleBytes
 room-sent = rw (ap (λ (l : List ℕ). drop 1 l) sample-answered)
 
--- "the input is above 32,768 bytes"
+-- RULES 7.4: the longest input that is run, and one byte more
 pub long-sent : map (λ (n : ℕ). length (sent (replicate n 0) 1)) (32768 ∷ 32769 ∷ []) ≡ 1 ∷ 0 ∷ []
 unfolding sent callAnswers loadOf loadChecks lengthTests kindTests
 long-sent = refl

@@ -74,7 +74,7 @@ module _ (input entry : List ℕ) {end : ℕ} (ends : end ≡ min (2 + wordAt in
   unfolding callAnswers
   stored-one refused = rw (ne-eqb (loadedOf input .number) 0 refused)
 
--- room for the answers of an input
+-- RULES 7.6: room for the answers of an input
 pub answers-most : (input : List ℕ) → length (answersOf input) ≤ 1 + length input / 6
 answers-most input =
     rw (answers-count input {end = min (2 + wordAt input 0) (length input)} refl) (split (eqb (loadedOf input .number) 0))

@@ -1,4 +1,4 @@
--- The records of calls (document 01, "The run program").
+-- The records of calls (RULES, section 6).
 use Prim.Native.Nat.{ℕ, _+_, _*_}
 use mathlib.Core.List.{List, [], _∷_}
 use lib.ListN.{getD}
@@ -11,9 +11,7 @@ use Rattle.machine.specs.declared.record.Call.the-variants.{Access, Grant, Revo
 use Rattle.run.specs.declared.records.Decoded.{Decoded}
 use Rattle.run.specs.declared.records.Decoded.the-variants.{Known, Unknown}
 
--- "Kinds: 1 access, address A × 65,536 + B; 2 grant and 3 revoke, page A, domain B; 4 mask B; 5 entry; 6 return; 7 switch to B;
--- 8 field of page A becomes B; 9 global context B; 10 mask B by the kernel; 11 mode B. Unused parts are ignored.": what stands at
--- each kind, from 0 on
+-- RULES 6.5: what each kind makes of a record, from kind 0 on, which is no call; parts that are not named are ignored
 abbrev pub kinds : (right a b : ℕ) → List Decoded
 kinds right a b =
     Unknown
@@ -30,11 +28,11 @@ kinds right a b =
     ∷ Known (StoreMode b)
     ∷ []
 
--- "A record is read as one of eleven calls": past the last kind none is known
+-- RULES 6.6: a kind past the last is no call either
 unfoldable pub callOfKind : (kind right a b : ℕ) → Decoded
 callOfKind kind right a b = getD (kinds right a b) kind Unknown
 
--- "calls of 6 bytes: kind, right, A (16 bits), B (16 bits)": the calls of a string of bytes; fewer than 6 bytes are no call
+-- RULES 6.4, 6.9: a record for every 6 bytes; fewer bytes are a remainder, and no record
 unfoldable pub callsOf : List ℕ → List Decoded
 callsOf [] = []
 callsOf (k ∷ []) = []
@@ -44,14 +42,15 @@ callsOf (k ∷ r ∷ a ∷ a′ ∷ []) = []
 callsOf (k ∷ r ∷ a ∷ a′ ∷ b ∷ []) = []
 callsOf (k ∷ r ∷ a ∷ a′ ∷ b ∷ b′ ∷ rest) = callOfKind k r (wordOf a a′) (wordOf b b′) ∷ callsOf rest
 
--- "A record is read as one of eleven calls or answered 18."
+-- RULES 6.6: what is no call is answered by 18, on any machine, which stays as it is
 unfoldable pub stepBy : (Machine → Call → Answered) → Machine → Decoded → Answered
 stepBy made m (Known call) = made m call
 stepBy made m Unknown = record { number = 18; machine = m }
 
+-- RULES 6.7: a step by the calls by value, whose answers are those of a run
 abbrev pub stepOf : Machine → Decoded → Answered
 stepOf = stepBy callOf
 
--- the step without the check for 1, which the machine of a run never meets
+-- RULES 6.7: a step without the check for 1, which the machine of a run never meets
 abbrev pub uncheckedStepOf : Machine → Decoded → Answered
 uncheckedStepOf = stepBy uncheckedOf

@@ -1,4 +1,4 @@
-// The run for the bench: the answers into a lent buffer (document 01, "The run program").
+// The run for the bench: the answers into a lent buffer (RULES, section 7).
 use crate::records::decode;
 use crate::records::step;
 use image::bytes::byte_at;
@@ -66,7 +66,7 @@ fn answer_calls(start: Machine, input: &[u8], from: usize, count: usize, answers
     }
 }
 
-// How many answers there are: the load's, and after an accepted load one for every six bytes that are left.
+// How many answers there are (RULES 7.3): the load's, and after an accepted load one for every six bytes that are left.
 fn answer_count(number: u8, left: usize) -> usize
     requires { ⌜ left ≤ 32768 ⌝ }
     ensures { λ r. ⌜ r ≡ pick (eqb number 0) (1 + left / 6) 1 ⌝ }
@@ -77,7 +77,7 @@ fn answer_count(number: u8, left: usize) -> usize
     1
 }
 
-// The bench's call: the answers of a whole input, and their count.
+// The bench's call (RULES 7.1 to 7.5): the answers of a whole input, and their count.
 #[no_mangle]
 pub extern "C" fn bench_run(input: &[u8], answers: &mut [u8]) -> usize
     ensures { λ r. ⌜ r ≡ length (sent (now (input .entry)) (length (now (answers .entry)))) ⌝ }

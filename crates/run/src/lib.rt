@@ -1,4 +1,4 @@
-// The run over a whole input (document 01, "The run program"): the records of calls, their steps, and the bench.
+// The run over a whole input (RULES, section 6): the records of calls, their steps, and the bench (section 7).
 mod bench;
 mod records;
 

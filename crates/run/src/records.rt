@@ -1,4 +1,4 @@
-// The records of calls, decoded and taken as steps of a machine (document 01, "The run program").
+// The records of calls, decoded and taken as steps of a machine (RULES, section 6).
 use image::bytes::word_of;
 use machine::record::Answered;
 use machine::record::Call;
@@ -26,7 +26,7 @@ fn address_of(a: u16, b: u16) -> u32
     65536 * (a as u32) + b as u32
 }
 
-// The call of a kind, with the parts of its record.
+// The call of a kind, with the parts of its record (RULES 6.5).
 fn call_of_kind(kind: u8, right: u8, a: u16, b: u16) -> Decoded
     ensures { λ r. ⌜ r ≡ callOfKind kind right a b ⌝ }
 {

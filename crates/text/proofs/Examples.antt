@@ -1,5 +1,5 @@
--- Computed texts: the sample node's, from document 01, by its answers; with a remainder; of a refused load; and decimal numbers. Also the word
--- for a long input.
+-- Computed texts (RULES, section 8): the sample node's, by its answers; with a remainder; of a refused load; and decimal numbers. Also the
+-- word for a long input.
 use mathlib.Core.Path.{_≡_, refl, ap}
 use mathlib.Core.List.{List, [], _∷_, _++_, map}
 use Prim.Native.Nat.{ℕ, _<_}
@@ -10,27 +10,27 @@ use Rattle.image.specs.Sample.{sampleBytes}
 use Rattle.run.proofs.Examples.{sampleInput, sample-answered, remainder-answered}
 use Rattle.text.specs.Text.{letters, decimalOf, lineOf, linesFrom, cutOf, loadLine, runText, textOf}
 
--- "Whole output, one item a line: `load 0`, `1 0`, `2 9`, `3 8`, `4 0`, `5 0`, `6 0`, `7 0`, `8 9`."
+-- RULES 8.6: the sample's nine lines
 pub sample-printed : textOf sampleInput ≡ letters "load 0\n1 0\n2 9\n3 8\n4 0\n5 0\n6 0\n7 0\n8 9\n"
 unfolding sampleInput sampleBytes textOf runText loadLine decimalOf linesFrom lineOf cutOf
 sample-printed = rw (ap (λ (l : List ℕ). getD l 0 0) sample-answered, ap (λ (l : List ℕ). drop 1 l) sample-answered)
 
--- "A remainder of 1 to 5 bytes prints `cut`."
+-- RULES 8.4: with a byte more a line for the remainder
 pub remainder-printed : textOf (sampleInput ++ 0x01 ∷ []) ≡ letters "load 0\n1 0\n2 9\n3 8\n4 0\n5 0\n6 0\n7 0\n8 9\ncut\n"
 unfolding sampleInput sampleBytes textOf runText loadLine decimalOf linesFrom lineOf cutOf
 remainder-printed = rw (ap (λ (l : List ℕ). getD l 0 0) remainder-answered, ap (λ (l : List ℕ). drop 1 l) remainder-answered)
 
--- "After a refused load it stops.", also where a remainder is left
+-- RULES 8.2: nothing follows a refused load, also where a remainder is left
 pub refused-printed : textOf (0x00 ∷ 0x00 ∷ 0x01 ∷ []) ≡ letters "load 20\n"
 unfolding textOf runText loadLine decimalOf loadOf loadChecks lengthTests
 refused-printed = refl
 
--- "Input above 32,768 bytes prints `long` alone."
+-- RULES 8.5: an input that is too long has one word for its text
 pub long-printed : (input : List ℕ) → 32768 < length input → textOf input ≡ letters "long\n"
 unfolding textOf
 long-printed input long = rw (lt-ltb 32768 (length input) long)
 
--- "decimal"
+-- RULES 8.1: numbers with each count of digits, and zeros inside but none in front
 pub decimal-cases :
     map decimalOf (0 ∷ 9 ∷ 10 ∷ 18 ∷ 99 ∷ 100 ∷ 1020 ∷ 5461 ∷ 10203 ∷ 65535 ∷ [])
     ≡ map letters ("0" ∷ "9" ∷ "10" ∷ "18" ∷ "99" ∷ "100" ∷ "1020" ∷ "5461" ∷ "10203" ∷ "65535" ∷ [])

@@ -1,4 +1,4 @@
--- What `pagerun` prints (document 01, "The run program").
+-- What `pagerun` prints (RULES, section 8).
 use Prim.Native.Nat.{ℕ, _+_, _/_, _%_}
 use Prim.Native.Char.{code}
 use Prim.Native.String.{String, [] as noLetters, _∷_ as _then_}
@@ -13,41 +13,42 @@ abbrev pub letters : String → List ℕ
 letters noLetters = []
 letters (letter then rest) = code letter ∷ letters rest
 
--- the digit of n that counts a power of ten, where n has it
+-- RULES 8.1: the digit of n that counts a power of ten; none where n is smaller, so that no zeros stand in front
 abbrev pub leadingDigit : ℕ → ℕ → List ℕ
 leadingDigit n power = pick (leb power n) ((48 + n / power % 10) ∷ []) []
 
--- "decimal": a number below 100,000 with no zero in front
+-- RULES 8.1: a number below 100,000 in decimal
 unfoldable pub decimalOf : ℕ → List ℕ
 decimalOf n =
     leadingDigit n 10000 ++ leadingDigit n 1000 ++ leadingDigit n 100 ++ leadingDigit n 10 ++ ((48 + n % 10) ∷ [])
 
--- "for each call its number from 1 and its answer, decimal"
+-- RULES 8.3: the line of a record: which one it is, and its number
 unfoldable pub lineOf : ℕ → ℕ → List ℕ
 lineOf i answer = decimalOf i ++ letters " " ++ decimalOf answer ++ letters "\n"
 
+-- RULES 8.3: the lines of all records, counted from i on
 unfoldable pub linesFrom : ℕ → List ℕ → List ℕ
 linesFrom i [] = []
 linesFrom i (answer ∷ rest) = lineOf i answer ++ linesFrom (i + 1) rest
 
--- "A remainder of 1 to 5 bytes prints `cut`."
+-- RULES 8.4: the line for a remainder of call bytes
 unfoldable pub cutOf : List ℕ → List ℕ
 cutOf bytes = pick (eqb (length bytes % 6) 0) [] (letters "cut\n")
 
--- "It prints `load` and the load's answer"
+-- RULES 8.2: the first line
 unfoldable pub loadLine : ℕ → List ℕ
 loadLine number = letters "load " ++ decimalOf number ++ letters "\n"
 
--- "After a refused load it stops."
+-- RULES 8.2: after a refused load the first line is all, with no `cut`
 unfoldable pub runText : List ℕ → List ℕ
 runText input =
     loadLine (loadedOf input .number)
     ++ pick (eqb (loadedOf input .number) 0) (linesFrom 1 (callAnswers input) ++ cutOf (callBytes input)) []
 
--- what `pagerun` prints: "Input above 32,768 bytes prints `long` alone."
+-- RULES 8.5: the whole text, which for an input that is not run is one line of its own
 unfoldable pub textOf : List ℕ → List ℕ
 textOf input = pick (isLong input) (letters "long\n") (runText input)
 
--- the text in a lent buffer: all of it where the buffer has room for every text, which 100,000 bytes are, and none of it elsewhere
+-- RULES 8.7: the text in a lent buffer: all of it from 100,000 bytes of room on, where every text fits, and nothing below
 unfoldable pub printed : List ℕ → ℕ → List ℕ
 printed input room = pick (leb 100000 room) (textOf input) []

@@ -1,5 +1,5 @@
-// The text that `pagerun` prints, made into a lent buffer from the answers of the run (document 01, "The run program"). Each writer puts
-// its text at a place where the caller has seen that there is room, and answers the place past it.
+// The text that `pagerun` prints, made into a lent buffer from the answers of the run (RULES, section 8). Each writer puts its text at a
+// place where the caller has seen that there is room, and answers the place past it.
 use run::bench_run;
 use run::calls_start;
 ghost use mathlib.Core.Path.{_≡_};

@@ -1,5 +1,5 @@
 //! The stored cases, in a fixed order. Each says what it is for and, by hand from
-//! document 01, which answers are due; the unit tests hold the oracle to them.
+//! the rules, which answers are due; the unit tests hold the oracle to them.
 //!
 //! A run starts from a loaded machine, which is sound, and every call keeps it so.
 //! So no case has answer 1, or answer 10, which waits behind 1.

@@ -1,7 +1,7 @@
-//! The machine of document 01 and its eleven calls.
+//! The machine and its eleven calls (RULES, sections 1 to 3).
 //!
-//! The lists are as long as the counts say, so places beyond a count or the depth
-//! do not exist here. No answer of a run depends on them.
+//! The lists are as long as the counts say, so that there is nothing past a count or
+//! the depth here. No answer of a run depends on it.
 
 pub const READ: u8 = 0;
 pub const WRITE: u8 = 1;
@@ -16,7 +16,7 @@ pub const MOST_MEMORY: u64 = 65_536;
 #[derive(Clone, Copy, PartialEq, Eq, Debug)]
 pub struct Page(pub u16);
 
-/// A domain number. Domain 0 has the highest level.
+/// A domain number. The lower it is, the higher the domain's level (RULES 1.4).
 #[derive(Clone, Copy, PartialEq, Eq, Debug)]
 pub struct Domain(pub u16);
 
@@ -119,7 +119,7 @@ impl Machine {
     }
 
     /// A loaded machine is sound and every call keeps it so; the check stands
-    /// in every call because document 01 puts it there.
+    /// in every call because the rules have it there (RULES 2.4).
     pub fn sound(&self) -> bool {
         (1..=MOST_PAGES).contains(&self.pages.len())
             && (5..=12).contains(&self.exponent)
@@ -178,7 +178,7 @@ impl Machine {
         refuse_if(domain.0 >= DOMAINS, 5)?;
         self.refuse_in_privileged_mode()?;
         self.refuse_pending()?;
-        // The prevailing domain comes from the whole field, not from the part in a context.
+        // The whole field is looked at, never only what a context has of it (RULES 1.8).
         let Some(highest) = prevailing(self.field(right, page)) else {
             return Err(11);
         };
@@ -231,7 +231,7 @@ impl Machine {
         refuse_if(named as usize >= self.programs.len(), 16)?;
         // The saved mode is the program's own; the live one is the kernel's.
         self.programs[self.current] = Program { context: self.context, mask: self.mask, mode: self.saved[0] };
-        // Read after the store, so that a switch to the current program changes only its entry.
+        // Read after the store, so that a program that is switched to itself keeps its registers (RULES 3.15).
         let next = self.programs[named as usize];
         self.context = next.context;
         self.mask = next.mask;

@@ -1,4 +1,4 @@
-//! A second implementation of document 01, for tests alone. It shares no code with the core.
+//! A second implementation of the rules, for tests alone. It shares no code with the core.
 
 mod cases;
 #[cfg(feature = "linked")]

@@ -69,8 +69,8 @@ pub fn step(machine: &mut Machine, record: &[u8]) -> u8 {
     }
 }
 
-/// The image and the bytes after it. Input under 2 bytes counts as an empty image;
-/// where the input ends early, the bytes that are there are the image.
+/// The image and the bytes after it (RULES 6.1 to 6.3). Where the input ends early, the
+/// bytes that are there are the image; of an input of 0 or 1 byte it is empty.
 pub fn split(input: &[u8]) -> (&[u8], &[u8]) {
     if input.len() < 2 {
         return (&[], &[]);

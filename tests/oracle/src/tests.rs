@@ -1,4 +1,4 @@
-//! Document 01's sample and starred cases with its own numbers, and the stored cases.
+//! The sample and the starred cases (RULES 5.12, 5.13, 6.11) with their numbers, and the stored cases.
 
 use crate::cases::{self, sample};
 use crate::image::load;
@@ -6,7 +6,7 @@ use crate::machine::{prevailing, Domain, Machine, Mode, Page, READ, WRITE};
 use crate::run::{answers, split, text};
 use std::collections::BTreeSet;
 
-/// The sample image as document 01 writes it.
+/// The sample image (RULES 5.12), byte by byte, not made by this program's own writer.
 const SAMPLE: [u8; 44] = [
     0x01, 0x00, 0x00, 0x12, 0x00, 0x04, 0x02, 0x00, 0x00, 0x16, 0x00, 0x0C, 0x03, 0x00, 0x00, 0x22, 0x00, 0x0A, //
     0x03, 0x08, 0x02, 0x00, //
@@ -14,7 +14,7 @@ const SAMPLE: [u8; 44] = [
     0x00, 0x07, 0x00, 0x03, 0x00, 0x00, 0x08, 0xFF, 0xFF, 0x00,
 ];
 
-/// The sample's calls as document 01 writes them.
+/// The sample's records (RULES 6.11), byte by byte too.
 const SAMPLE_CALLS: [u8; 48] = [
     0x01, 0x00, 0x00, 0x00, 0x00, 0x10, 0x01, 0x00, 0x00, 0x00, 0x02, 0x00, //
     0x04, 0x00, 0x00, 0x00, 0x00, 0x07, 0x05, 0x00, 0x00, 0x00, 0x00, 0x00, //

@@ -1,4 +1,4 @@
-//! Document 01's sample and its twelve starred cases, each from the loaded sample.
+//! The sample run (RULES 6.11), and the starred cases, which are the twelve of RULES 5.13.
 
 use super::{field_is, sample, Cases, Step};
 use crate::write::*;
