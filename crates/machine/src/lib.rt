@@ -4,9 +4,12 @@ pub mod calls;
 pub mod lent;
 pub mod record;
 
+pub use lent::set_mask_lent;
 pub use record::Answered;
 pub use record::Call;
 pub use record::Domain;
 pub use record::Machine;
 pub use record::Page;
 pub use record::Program;
+pub use rules::registers::Mode;
+pub use rules::registers::Registers;

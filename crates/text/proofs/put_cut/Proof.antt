@@ -5,7 +5,10 @@ use borrow.Author.Needs.{needs}
 use Rattle.text.proofs.put_cut.Statement.{statement}
 use Rattle.text.proofs.put_cut.Tie as tie
 
+returns-2 : tie.Need-returns-2
+returns-2 c = search decided
+
 pub put-cut-spec : {M : Type 1} → statement M
 put-cut-spec =
     tie.close
-    (tie.spec (λ c. search (put-none, decided)) (λ c. search needs) (search needs) (λ c. search needs) (λ c. search decided))
+    (tie.spec (λ c. search (put-none, decided)) (λ c. search needs) (search needs) (λ c. search needs) returns-2)

@@ -3,5 +3,8 @@ use borrow.Author.Needs.{needs}
 use Rattle.rules.proofs.domains.Prevailing.not_lower.Statement.{statement}
 use Rattle.rules.proofs.domains.Prevailing.not_lower.Tie as tie
 
+returns-2 : tie.Need-returns-2
+returns-2 c = cc
+
 pub not-lower-spec : {M : Type 1} → statement M
-not-lower-spec = tie.close (tie.spec (λ c. search needs) (λ c. search needs) (λ c. search needs) (λ c. cc))
+not-lower-spec = tie.close (tie.spec (λ c. search needs) (λ c. search needs) (λ c. search needs) returns-2)
