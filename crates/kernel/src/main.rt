@@ -6,13 +6,16 @@ use machine::Answered;
 use machine::Domain;
 use machine::Machine;
 use machine::Page;
-ghost use mathlib.Core.Bool.{true};
+ghost use mathlib.Core.Bool.{true, false};
 ghost use mathlib.Core.Path.{_≡_};
 ghost use Prim.Native.Nat.{_<_};
 ghost use lib.Dec.{eqb};
+ghost use lib.ListN.{getD, set};
 ghost use Rattle.rules.specs.Refusals.{pick};
 ghost use Rattle.machine.specs.Calls.{callOf};
-ghost use Rattle.machine.specs.Machine.{isSound};
+ghost use Rattle.machine.specs.Machine.{isSound, withPrograms};
+ghost use Rattle.machine.specs.declared.record.Call.{Call};
+ghost use Rattle.rules.specs.Registers.{modeWhere};
 ghost use Rattle.image.specs.Load.{loadOf};
 ghost use Rattle.kernel.specs.Kernel.{callFor, begunOf, servedOf};
 
@@ -61,6 +64,14 @@ fn begin_turn(machine: Machine, program: u16) -> Begun
         leave: left.number,
         machine: after,
     }
+}
+
+// Stores the live registers as the current program's entry, by a switch to that program. Where it is done, nothing else changes.
+fn store_current(machine: Machine) -> Answered
+    ensures { λ r. ⌜ r ≡ callOf machine (Call.Switch (machine .current)) ⌝ }
+    ensures { λ r. ⌜ (r .number ≡ 0 → r .machine ≡ withPrograms (machine .current) (set (machine .table) (machine .current) (record { context = machine .registers .context; mask = machine .registers .mask; mode = modeWhere (getD (machine .saved) 0 false) })) machine) ⌝ }
+{
+    machine.switch_to(machine.current)
 }
 
 // One request: the call that belongs to it.
@@ -121,7 +132,7 @@ fn print(number: u8) {
     io::write_all(STDOUT_FILENO, b"\n");
 }
 
-// The sample node: a load, three requests of program 0 of which a violation and the one after it are refused, the turn of program 1, and three of
+// The sample node: a load, three requests of program 0 of which a violation and the one after it are refused, an interrupt in which its registers are stored, the turn of program 1, and three of
 // its requests, of which the last two are refused: it does not hold the prevailing domain, and may not write page 0.
 fn main() {
     let image = [
@@ -181,7 +192,11 @@ fn main() {
         ],
     );
     print(first.refused);
-    let begun = begin_turn(first.machine, 1);
+    let interrupted = first.machine.enter();
+    let stored = store_current(interrupted.machine);
+    print(stored.number);
+    let resumed = stored.machine.leave();
+    let begun = begin_turn(resumed.machine, 1);
     print(begun.entry);
     print(begun.switch);
     print(begun.leave);

@@ -10,4 +10,5 @@ pub mod Readings
 pub mod Cases
 pub mod View
 pub mod Turn
+pub mod Lengths
 pub mod MaskCommand
