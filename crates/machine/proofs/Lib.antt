@@ -10,3 +10,4 @@ pub mod Cases
 pub mod View
 pub mod Turn
 pub mod MaskCommand
+pub mod Pinned
