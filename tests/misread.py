@@ -11,8 +11,9 @@ A list has entries with an empty line between them:
 `file`, `old` and `new` may follow again, where one misreading needs more than one change.
 
 Only laws may refuse. So the crates are copied without their functions and without the proofs of these: types, definitions and law files
-stay, and one run of the prover takes all of them in about a second. A law refuses where the prover reports an error inside it that says
-that a fact fails; that something which it uses failed is not enough, and a misreading that is no definition any more does not count.
+stay, and one run of the prover takes the crates up to the one that has the named law in about a second. A law refuses where the prover
+reports an error inside it that says that a fact fails; that something which it uses failed is not enough, and a misreading that is no
+definition any more does not count.
 Before the lists are read, each law file in turn must be shown to be looked at: a false declaration put into all of them has to be reported
 once for each. The last line says how many misreadings the named laws refuse; the exit status is 0 where that is all of them.
 """
@@ -94,21 +95,32 @@ class Prover:
             sys.exit('rt is missing: install the Rattle toolchain')
         kit = pathlib.Path(program).resolve().parent.parent
         own = kit / 'on' / platform.machine()
-        *below, top = crates
-        self.command = [own / 'bin/rattle', 'check', '--crate-name', top, self.tree / 'crates' / top / 'src/lib.rt']
-        self.command += ['--extern', f'std={own}/rlib/std.rlib', '-L', f'dependency={own}/rlib']
+        self.crates = crates
+        self.command = [own / 'bin/rattle', 'check', '--extern', f'std={own}/rlib/std.rlib', '-L', f'dependency={own}/rlib']
         self.command += ['--antt-project', kit / 'logic/antt-project.json', '--logic-built', own / 'logic-built']
         self.command += ['--incremental', self.memory]
-        for crate in below:
-            self.command += ['--lib', f"{crate}:{','.join(crates[crate])}={self.tree}/crates/{crate}/src/lib.rt"]
 
-    def check(self):
-        """The exit status and the report of one check of all crates."""
-        done = subprocess.run([str(word) for word in self.command], stdout=subprocess.PIPE, stderr=subprocess.STDOUT, timeout=900)
+    def check(self, top=None):
+        """The exit status and the report of one check of the crates up to one, or of all."""
+        names = list(self.crates)
+        top = top or names[-1]
+        words = self.command + ['--crate-name', top, self.tree / 'crates' / top / 'src/lib.rt']
+        for crate in names[: names.index(top)]:
+            words += ['--lib', f"{crate}:{','.join(self.crates[crate])}={self.tree}/crates/{crate}/src/lib.rt"]
+        done = subprocess.run([str(word) for word in words], stdout=subprocess.PIPE, stderr=subprocess.STDOUT, timeout=900)
         return done.returncode, done.stdout.decode('utf-8', 'replace')
 
     def law_files(self):
         return [f for f in sorted(self.tree.glob('crates/*/proofs/**/*.antt')) if f.name != 'Lib.antt']
+
+    def homes(self):
+        """The crate of each declaration of a law file; the upper one where two crates have the name."""
+        found = {}
+        for crate in self.crates:
+            for file in self.tree.glob(f'crates/{crate}/proofs/**/*.antt'):
+                for name in re.findall(r'^ *(?:pub )?(\S+) :(?: |$)', file.read_text(encoding='utf-8'), re.M):
+                    found[name] = crate
+        return found
 
     def canary(self):
         """The law files that are not looked at."""
@@ -120,8 +132,8 @@ class Prover:
             file.write_text(text, encoding='utf-8')
         return [f for f in before if not re.search(re.escape(str(f)) + r':\d+:\d+: error: `never-shown`', report)]
 
-    def misread(self, changes):
-        """What does not fit, and the laws that refuse the changes."""
+    def misread(self, changes, top=None):
+        """What does not fit, and the laws of the crates up to one that refuse the changes."""
         before = {}
         try:
             for file, old, new in changes:
@@ -133,7 +145,7 @@ class Prover:
                 if text.count(old) != 1:
                     return f'{old!r} stands {text.count(old)} times in {file}', []
                 path.write_text(text.replace(old, new), encoding='utf-8')
-            report = self.check()[1]
+            report = self.check(top)[1]
         finally:
             for path, text in before.items():
                 path.write_text(text, encoding='utf-8')
@@ -172,12 +184,14 @@ def entries(path):
             yield where, ' '.join(what), law, changes
 
 
-def judge(prover, entry):
+def judge(prover, homes, entry):
     """Nothing where the law refuses the misreading, else what is the matter."""
     where, what, law, changes = entry
     if not what or not law or not changes:
         return f'{where}: an entry says what is misread, which law refuses it, and where'
-    unfit, laws = prover.misread(changes)
+    if law not in homes:
+        return f'{where}: {what}: there is no law {law}'
+    unfit, laws = prover.misread(changes, homes[law])
     if unfit:
         return f'{where}: {what}: {unfit}'
     if law not in laws:
@@ -203,6 +217,7 @@ def main():
         print(f'{len(provers[0].law_files())} law files, {len(unseen)} of them not looked at')
         if unseen:
             return 1
+        homes = provers[0].homes()
         waiting, faults = queue.Queue(), []
         for path in lists:
             for entry in entries(path):
@@ -216,7 +231,7 @@ def main():
                 except queue.Empty:
                     return
                 try:
-                    fault = judge(prover, entry)
+                    fault = judge(prover, homes, entry)
                 except Exception as broken:  # a prover that dies or hangs refuses nothing
                     fault = f'{entry[0]}: {broken}'
                 if fault:

@@ -176,8 +176,12 @@ pub kernel-outcomes :
     ∷ (one, Switch 0, 0, kernel f (live 1 11 Privileged false) 1 (marked false true) 0 (from-last (stored 0x0300 0xFF00 User)))
     ∷ (one, Switch 7, 0, kernel f r 1 (marked false true) 7 (from-last (stored 0x0300 0xFF00 User)))
     ∷ (one, Switch 8, 16, one)
-    ∷ (kernel f r 1 (marked true true) 7 entries, Switch 1, 0,
-      kernel f (live 2 12 Privileged false) 1 (marked false true) 1 (from-last (stored 0x0300 0xFF00 Privileged)))
+    ∷ (
+      kernel f r 1 (marked true true) 7 entries,
+      Switch 1,
+      0,
+      kernel f (live 2 12 Privileged false) 1 (marked false true) 1 (from-last (stored 0x0300 0xFF00 Privileged)),
+    )
     ∷ (kernel f r 2 (marked true true) 7 entries, Switch 1, 15, kernel f r 2 (marked true true) 7 entries)
     ∷ (kernel f r 7 (marked true false) 7 entries, Enter, 0, kernel f r 8 (marked true true) 7 entries)
     ∷ (kernel f (live 0x0300 0xFF00 User true) 7 (marked true true) 7 entries, Enter, 0, kernel f r 8 (marked true false) 7 entries)
@@ -270,8 +274,12 @@ pub unchecked-outcomes :
     ∷ (empty, Access 1 0, 9, withRegisters (live 0x0101 0xFF01 User true) empty)
     ∷ (empty, Enter, 13, empty)
     ∷ (deep, Return, 0, withRegisters (live 0x0101 0xFF01 User false) (loose 8 2 0 Privileged false))
-    ∷ (many, Switch 8, 0,
-      whole 3 8 (1 ∷ 2 ∷ []) (live 0 0 Privileged false) 1 (false ∷ replicate 7 true) 9 8 (replicate 8 (stored 1 2 Privileged)))
+    ∷ (
+      many,
+      Switch 8,
+      0,
+      whole 3 8 (1 ∷ 2 ∷ []) (live 0 0 Privileged false) 1 (false ∷ replicate 7 true) 9 8 (replicate 8 (stored 1 2 Privileged)),
+    )
     ∷ (many, StoreContext 5, 0, withRegisters (live 5 0xFF01 Privileged false) many)
     ∷ [])
 unfolding uncheckedOf checksOf accessChecks effectOf entered returned switched after
