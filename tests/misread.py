@@ -6,16 +6,16 @@ A list has entries with an empty line between them:
     # what is misread, in plain words
     law: the law that refuses it
     file: crates/CRATE/specs/NAME.antt
-    old: text that stands there exactly once (a new line is written \\n)
+    old: text that stands there exactly once (a new line is written \\n, a backslash \\\\)
     new: what is read in its place
 `file`, `old` and `new` may follow again, where one misreading needs more than one change.
 
 Only laws may refuse. So the crates are copied without their functions and without the proofs of these: types, definitions and law files
-stay, and one run of the prover takes the crates up to the one that has the named law in about a second. A law refuses where the prover
-reports an error inside it that says that a fact fails; that something which it uses failed is not enough, and a misreading that is no
-definition any more does not count.
-Before the lists are read, each law file in turn must be shown to be looked at: a false declaration put into all of them has to be reported
-once for each. The last line says how many misreadings the named laws refuse; the exit status is 0 where that is all of them.
+stay. For a misreading the copy has the crates up to that of the named law, and of the law files only the one with the law and those that it
+uses, so that the prover takes a second. A law refuses where the prover reports an error inside it that says that a fact fails; that something
+which it uses failed is not enough, and a misreading that is no definition any more does not count. Before the lists are read, each law file
+must be shown to be looked at: a false declaration put into all of them has to be reported once for each. The last line says how many
+misreadings the named laws refuse; the exit status is 0 where that is all of them.
 """
 import pathlib
 import platform
@@ -71,91 +71,115 @@ def declarations(text):
     return '\n'.join(needed + kept) + '\n'
 
 
-def copy_without_code(crates, into):
+def law_files(crates):
+    """The law files, each with those that it uses, directly or not."""
+    uses = {}
+    for crate in crates:
+        for file in sorted((ROOT / 'crates' / crate / 'proofs').glob('*.antt')):
+            if file.name != 'Lib.antt':
+                names = re.findall(r'^use Rattle·(\w+?)(?:·proofs)?\.proofs\.(\w+)\.', file.read_text(encoding='utf-8'), re.M)
+                uses[file] = {ROOT / 'crates' / other / 'proofs' / f'{name}.antt' for other, name in names}
+    for _ in uses:
+        uses = {file: used.union(*(uses[one] for one in used)) for file, used in uses.items()}
+    return uses
+
+
+def laws(files):
+    """The law file of each declaration that stands in one alone."""
+    found = {}
+    for file in files:
+        for name in set(re.findall(r'^(?:pub )?(\S+) :(?: |$)', file.read_text(encoding='utf-8'), re.M)):
+            found[name] = None if name in found else file
+    return {name: file for name, file in found.items() if file}
+
+
+def copy_without_code(crates, files, into):
+    """The types and definitions of crates, and some law files."""
     for crate in crates:
         home = ROOT / 'crates' / crate
-        for source in [*home.glob('src/**/*.rt'), *home.glob('specs/**/*.antt'), *home.glob('proofs/**/*.antt')]:
-            if source.name == 'Proof.antt':
-                continue
+        own = [file for file in files if file.parent.parent == home]
+        for source in [*home.glob('src/**/*.rt'), *home.glob('specs/**/*.antt'), *own]:
             text = source.read_text(encoding='utf-8')
             target = into / source.relative_to(ROOT)
             target.parent.mkdir(parents=True, exist_ok=True)
             target.write_text(declarations(text) if source.suffix == '.rt' else text, encoding='utf-8')
+        if own:
+            listed = ''.join(f'pub mod {file.stem}\n' for file in own)
+            (into / 'crates' / crate / 'proofs' / 'Lib.antt').write_text(listed, encoding='utf-8')
 
 
 class Prover:
-    """A copy of the crates with a memory of its own of what was checked before."""
+    """The prover, with a folder for copies and a memory of its own of what was checked before."""
 
     def __init__(self, room, crates):
-        self.tree, self.memory = room / 'tree', room / 'memory'
-        self.memory.mkdir(parents=True)
-        copy_without_code(crates, self.tree)
+        self.room, self.crates, self.trees = room, crates, {}
+        (room / 'memory').mkdir(parents=True)
         program = shutil.which('rt')
         if not program:
             sys.exit('rt is missing: install the Rattle toolchain')
         kit = pathlib.Path(program).resolve().parent.parent
         own = kit / 'on' / platform.machine()
-        self.crates = crates
         self.command = [own / 'bin/rattle', 'check', '--extern', f'std={own}/rlib/std.rlib', '-L', f'dependency={own}/rlib']
         self.command += ['--antt-project', kit / 'logic/antt-project.json', '--logic-built', own / 'logic-built']
-        self.command += ['--incremental', self.memory]
+        self.command += ['--incremental', room / 'memory']
 
-    def check(self, top=None):
-        """The exit status and the report of one check of the crates up to one, or of all."""
+    def check(self, tree, top):
+        """The exit status and the report of one check of the crates of a copy."""
         names = list(self.crates)
-        top = top or names[-1]
-        words = self.command + ['--crate-name', top, self.tree / 'crates' / top / 'src/lib.rt']
+        words = self.command + ['--crate-name', top, tree / 'crates' / top / 'src/lib.rt']
         for crate in names[: names.index(top)]:
-            words += ['--lib', f"{crate}:{','.join(self.crates[crate])}={self.tree}/crates/{crate}/src/lib.rt"]
+            words += ['--lib', f"{crate}:{','.join(self.crates[crate])}={tree}/crates/{crate}/src/lib.rt"]
         done = subprocess.run([str(word) for word in words], stdout=subprocess.PIPE, stderr=subprocess.STDOUT, timeout=900)
         return done.returncode, done.stdout.decode('utf-8', 'replace')
 
-    def law_files(self):
-        return [f for f in sorted(self.tree.glob('crates/*/proofs/**/*.antt')) if f.name != 'Lib.antt']
+    def tree(self, files, top):
+        """A copy with the crates up to one and some law files, which the prover accepts as it stands."""
+        key = (top, *sorted(files))
+        if key not in self.trees:
+            tree = self.room / str(len(self.trees))
+            names = list(self.crates)
+            copy_without_code(names[: names.index(top) + 1], files, tree)
+            status, report = self.check(tree, top)
+            if status != 0:
+                raise RuntimeError(f'the definitions and laws are not accepted as they stand: {report[-3000:]}')
+            self.trees[key] = tree
+        return self.trees[key]
 
-    def homes(self):
-        """The crate of each declaration of a law file; the upper one where two crates have the name."""
-        found = {}
-        for crate in self.crates:
-            for file in self.tree.glob(f'crates/{crate}/proofs/**/*.antt'):
-                for name in re.findall(r'^ *(?:pub )?(\S+) :(?: |$)', file.read_text(encoding='utf-8'), re.M):
-                    found[name] = crate
-        return found
-
-    def canary(self):
+    def canary(self, files):
         """The law files that are not looked at."""
-        before = {f: f.read_text(encoding='utf-8') for f in self.law_files()}
-        for file, text in before.items():
-            file.write_text(text + CANARY, encoding='utf-8')
-        report = self.check()[1]
-        for file, text in before.items():
-            file.write_text(text, encoding='utf-8')
-        return [f for f in before if not re.search(re.escape(str(f)) + r':\d+:\d+: error: `never-shown`', report)]
+        top = list(self.crates)[-1]
+        tree = self.tree(files, top)
+        copies = {file: tree / file.relative_to(ROOT) for file in files}
+        for copy in copies.values():
+            copy.write_text(copy.read_text(encoding='utf-8') + CANARY, encoding='utf-8')
+        report = self.check(tree, top)[1]
+        return [file for file, copy in copies.items() if not re.search(re.escape(str(copy)) + r':\d+:\d+: error: `never-shown`', report)]
 
-    def misread(self, changes, top=None):
-        """What does not fit, and the laws of the crates up to one that refuse the changes."""
+    def misread(self, changes, files, top):
+        """What does not fit, and the laws of these files that refuse the changes."""
+        tree = self.tree(files, top)
         before = {}
         try:
             for file, old, new in changes:
-                path = self.tree / file
+                path = tree / file
                 if '/specs/' not in file or not path.exists():
-                    return f'{file} is no file of definitions', []
+                    return f'{file} has no definition that the law is about', []
                 text = path.read_text(encoding='utf-8')
                 before.setdefault(path, text)
                 if text.count(old) != 1:
                     return f'{old!r} stands {text.count(old)} times in {file}', []
                 path.write_text(text.replace(old, new), encoding='utf-8')
-            report = self.check(top)[1]
+            report = self.check(tree, top)[1]
         finally:
             for path, text in before.items():
                 path.write_text(text, encoding='utf-8')
-        broken, laws = '', []
+        broken, refused = '', []
         for crate, part, file, name, said in ERROR.findall(report):
             if part == 'specs':
                 broken = broken or f'no definition any more: {crate}/{file}: {said}'
             elif any(word in said for word in FACT) and 'was not admitted' not in said:
-                laws.append(name)
-        return broken, laws
+                refused.append(name)
+        return broken, refused
 
 
 def entries(path):
@@ -167,7 +191,7 @@ def entries(path):
         what, law, changes, file, old = [], '', [], '', ''
         for line in block.strip('\n').split('\n'):
             word, _, rest = line.partition(': ')
-            rest = rest.replace('\\n', '\n')
+            rest = re.sub(r'\\(.)', lambda mark: '\n' if mark.group(1) == 'n' else mark.group(1), rest)
             if line.startswith('#'):
                 what.append(line[1:].strip())
             elif word == 'law':
@@ -184,40 +208,37 @@ def entries(path):
             yield where, ' '.join(what), law, changes
 
 
-def judge(prover, homes, entry):
+def judge(prover, uses, homes, entry):
     """Nothing where the law refuses the misreading, else what is the matter."""
     where, what, law, changes = entry
     if not what or not law or not changes:
         return f'{where}: an entry says what is misread, which law refuses it, and where'
     if law not in homes:
-        return f'{where}: {what}: there is no law {law}'
-    unfit, laws = prover.misread(changes, homes[law])
+        return f'{where}: {what}: there is no law {law}, or more than one'
+    file = homes[law]
+    unfit, refused = prover.misread(changes, {file} | uses[file], file.parent.parent.name)
     if unfit:
         return f'{where}: {what}: {unfit}'
-    if law not in laws:
-        others = ', '.join(sorted(set(laws))) or 'no law'
-        return f'{where}: {what}: {law} does not refuse it; {others} does'
+    if law not in refused:
+        others = ', '.join(sorted(set(refused))) or 'nothing'
+        return f'{where}: {what}: {law} does not refuse it; beside it {others} does'
     return ''
 
 
 def main():
     lists = [pathlib.Path(name) for name in sys.argv[1:]] or sorted((HERE / 'misreadings').glob('*.txt'))
     crates = library_crates()
+    uses = law_files(crates)
+    homes = laws(uses)
     room = pathlib.Path(tempfile.mkdtemp())
     try:
         provers = [Prover(room / str(number), crates) for number in range(WORKERS)]
-        status, report = provers[0].check()
-        if status != 0:
-            print(report[-3000:])
-            print('the definitions and laws are not accepted as they stand')
-            return 1
-        unseen = provers[0].canary()
+        unseen = provers[0].canary(set(uses))
         for file in unseen:
-            print(f'{file.relative_to(provers[0].tree)} is not looked at')
-        print(f'{len(provers[0].law_files())} law files, {len(unseen)} of them not looked at')
+            print(f'{file.relative_to(ROOT)} is not looked at')
+        print(f'{len(uses)} law files, {len(unseen)} of them not looked at')
         if unseen:
             return 1
-        homes = provers[0].homes()
         waiting, faults = queue.Queue(), []
         for path in lists:
             for entry in entries(path):
@@ -231,7 +252,7 @@ def main():
                 except queue.Empty:
                     return
                 try:
-                    fault = judge(prover, homes, entry)
+                    fault = judge(prover, uses, homes, entry)
                 except Exception as broken:  # a prover that dies or hangs refuses nothing
                     fault = f'{entry[0]}: {broken}'
                 if fault:

@@ -158,14 +158,17 @@ pub ends-load :
 unfolding loadOf loadChecks lengthTests kindTests shapeEntryTests shapeTests bodyTests describe machineOf
 ends-load = (refl, refl, refl)
 
--- what they are answered with one byte less or more, a memory that is too large, and wrong mode bytes of the last and of the first program
-pub ends-answered :
+-- what they are answered with one byte less or more, memories of 65,536 bytes and of one page more, and wrong mode bytes of the last and of
+-- the first program
+pub ends-refused :
     map (λ (s : List ℕ). loadOf s .number)
     (take 573 longest
     ∷ (longest ++ 0 ∷ [])
     ∷ take 30 shortest
     ∷ (shortest ++ 0 ∷ [])
     ∷ set longest 19 10
+    ∷ set (set sampleBytes 18 64) 19 10
+    ∷ set (set sampleBytes 18 65) 19 10
     ∷ set longest 573 2
     ∷ set longest 538 2
     ∷ set shortest 30 1
@@ -174,9 +177,9 @@ pub ends-answered :
     ∷ set long-bytes 14 0
     ∷ set long-bytes 10 0
     ∷ [])
-    ≡ 24 ∷ 20 ∷ 20 ∷ 24 ∷ 23 ∷ 25 ∷ 25 ∷ 0 ∷ 25 ∷ 24 ∷ 24 ∷ 24 ∷ []
-unfolding loadOf loadChecks lengthTests kindTests shapeEntryTests shapeTests bodyTests
-ends-answered = refl
+    ≡ 24 ∷ 20 ∷ 20 ∷ 24 ∷ 23 ∷ 24 ∷ 23 ∷ 25 ∷ 25 ∷ 0 ∷ 25 ∷ 24 ∷ 24 ∷ 24 ∷ []
+unfolding loadOf loadChecks lengthTests kindTests shapeEntryTests shapeTests bodyTests sampleBytes
+ends-refused = refl
 
 -- ---- the starred cases: which twelve they are, and what each gives
 
@@ -232,6 +235,13 @@ twelve =
 pub twelve-given : (map outcome starred ≡ twelve) × (map expected starred ≡ twelve)
 unfolding starred sampleMachine callOf checksOf effectOf accessChecks changeChecks after isSound domainBit prevailing loadOf loadChecks lengthTests kindTests shapeEntryTests shapeTests bodyTests describe machineOf sampleBytes trailingZeros
 twelve-given = (refl, refl)
+
+-- a case that says what is not so: what it must give is what it says, and what the definitions give is something else
+pub cases-judged :
+    let wrong : Case = record { before = SetMask 0x0007 ∷ []; call = Return; number = 99; machine = nothing } in
+    outcome wrong ∷ expected wrong ∷ [] ≡ record { number = 7; machine = of-sample 9 7 false } ∷ record { number = 99; machine = nothing } ∷ []
+unfolding callOf checksOf effectOf after isSound loadOf loadChecks lengthTests kindTests shapeEntryTests shapeTests bodyTests describe machineOf sampleBytes
+cases-judged = refl
 
 -- the sample's bytes by themselves: their places and what stands there
 pub sample-bytes :

@@ -217,10 +217,11 @@ pub ends-sound :
     ∷ ranged 1 8 8 1 0 User false
     ∷ ranged 1 8 0 8 7 User false
     ∷ ranged 16 12 0 1 0 User false
+    ∷ ranged 64 10 0 1 0 User false
     ∷ ranged 1 8 0 1 0 User true
     ∷ ranged 1 8 0 1 0 Privileged false
     ∷ [])
-    ≡ replicate 9 true
+    ≡ replicate 10 true
 unfolding isSound
 ends-sound = refl
 
@@ -234,12 +235,13 @@ pub past-ends-not-sound :
     ∷ ranged 1 8 0 0 0 User false
     ∷ ranged 1 8 0 9 0 User false
     ∷ ranged 17 12 0 1 0 User false
+    ∷ ranged 65 10 0 1 0 User false
     ∷ ranged 128 10 0 1 0 User false
     ∷ ranged 1 8 0 1 1 User false
     ∷ ranged 1 8 0 7 7 User false
     ∷ ranged 1 8 0 1 0 Privileged true
     ∷ [])
-    ≡ replicate 12 false
+    ≡ replicate 13 false
 unfolding isSound
 past-ends-not-sound = refl
 
