@@ -6,3 +6,4 @@ pub mod RoundTrip
 pub mod Loaded
 pub mod Sample
 pub mod Order
+pub mod Pinned

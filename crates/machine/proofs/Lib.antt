@@ -12,3 +12,4 @@ pub mod View
 pub mod Turn
 pub mod Lengths
 pub mod MaskCommand
+pub mod Pinned

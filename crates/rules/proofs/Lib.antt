@@ -2,3 +2,4 @@ pub mod Laws
 pub mod Bits
 pub mod Lowest
 pub mod Decided
+pub mod Pinned

@@ -3,3 +3,4 @@ mod Steps
 pub mod Sent
 mod Given
 pub mod Examples
+pub mod Pinned

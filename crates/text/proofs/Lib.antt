@@ -1,3 +1,4 @@
 mod Puts
 pub mod Printed
 mod Examples
+pub mod Pinned

@@ -1,0 +1,376 @@
+-- What the definitions of this crate come to on written machines: the largest machine, whose last page, domain, program and stack place are used,
+-- machines at both ends of each range, and machines that are not sound. All is computed: each law sets what a definition gives beside what it
+-- must be, written out, and a part of a definition that was misread makes the two differ.
+use Prim.Native.Nat.{ℕ}
+use mathlib.Core.Path.{_≡_, refl}
+use mathlib.Core.Bool.{Bool, true, false}
+use mathlib.Core.List.{List, [], _∷_, _++_, map}
+use lib.Count.{trailingZeros}
+use lib.ListN.{replicate}
+use Rattle.rules.specs.Domains.{domainBit, prevailing}
+use Rattle.rules.specs.declared.registers.Mode.{Mode}
+use Rattle.rules.specs.declared.registers.Mode.the-variants.{User, Privileged}
+use Rattle.rules.specs.declared.registers.Registers.{Registers}
+use Rattle.machine.specs.Machine.{zero, noProgram, isSound, memorySize, placeOf, fieldOf, withFields, withRegisters, withStack, withPrograms, withLent}
+use Rattle.machine.specs.Calls.{isRight, asPage, asDomain, inPrivilegedMode, inUserMode, pageOf, modeOf, violated, callOf, uncheckedOf, changeCall, keeping, checksOf, accessChecks, changeChecks, effectOf, entered, returned, switched, after}
+use Rattle.machine.specs.Listed.{isIn, listed, soundNumbers}
+use Rattle.machine.specs.declared.record.Machine.{Machine}
+use Rattle.machine.specs.declared.record.Program.{Program}
+use Rattle.machine.specs.declared.record.Page.{Page}
+use Rattle.machine.specs.declared.record.Domain.{Domain}
+use Rattle.machine.specs.declared.record.Answered.{Answered}
+use Rattle.machine.specs.declared.record.Call.{Call}
+use Rattle.machine.specs.declared.record.Call.the-variants.{Access, Grant, Revoke, SetMask, Enter, Return, Switch, StoreField, StoreContext, StoreMask, StoreMode}
+
+abbrev stored : ℕ → ℕ → Mode → Program
+stored context mask mode = record { context = context; mask = mask; mode = mode }
+
+abbrev live : ℕ → ℕ → Mode → Bool → Registers
+live context mask mode pending = record { context = context; mask = mask; mode = mode; pending = pending }
+
+-- a machine by all its parts
+abbrev whole : ℕ → ℕ → List ℕ → Registers → ℕ → List Bool → ℕ → ℕ → List Program → Machine
+whole pages exponent fields registers depth saved programs current table =
+    record {
+      pages = pages;
+      exponent = exponent;
+      fields = fields;
+      registers = registers;
+      depth = depth;
+      saved = saved;
+      programs = programs;
+      current = current;
+      table = table;
+    }
+
+-- "every number is zero, every mode user and the flag clear": 256 fields, eight places on the stack, eight entries in the table
+pub all-zero :
+    (zero ≡ whole 0 0 (replicate 256 0) (live 0 0 User false) 0 (replicate 8 false) 0 0 (replicate 8 (stored 0 0 User)))
+    × (noProgram ≡ stored 0 0 User)
+all-zero = (refl, refl)
+
+-- numbers of rights, pages, domains and modes
+pub numbers-named :
+    (map isRight (0 ∷ 1 ∷ 2 ∷ 3 ∷ 255 ∷ []) ≡ true ∷ true ∷ false ∷ false ∷ false ∷ [])
+    × (map asPage (0 ∷ 127 ∷ 515 ∷ []) ≡ record { 0 = 0 } ∷ record { 0 = 127 } ∷ record { 0 = 515 } ∷ [])
+    × (map asDomain (0 ∷ 15 ∷ 1029 ∷ []) ≡ record { 0 = 0 } ∷ record { 0 = 15 } ∷ record { 0 = 1029 } ∷ [])
+    × (map modeOf (0 ∷ 1 ∷ 2 ∷ []) ≡ User ∷ Privileged ∷ Privileged ∷ [])
+numbers-named = (refl, refl, refl, refl)
+
+-- ---- the largest machine: 128 pages of 512 bytes, eight programs. READ of the last page is held by domains 8 and 9, WRITE by 9 and 15.
+
+abbrev entries : List Program
+entries =
+    stored 1 11 User ∷ stored 2 12 User ∷ stored 3 13 User ∷ stored 4 14 User ∷ stored 5 15 User ∷ stored 6 16 User ∷ stored 7 17 Privileged
+    ∷ stored 8 18 User ∷ []
+
+abbrev last : ℕ → ℕ → List ℕ
+last read write = replicate 254 0 ++ read ∷ write ∷ []
+
+abbrev wide : List ℕ → Registers → Machine
+wide fields registers = whole 128 9 fields registers 0 (replicate 8 false) 8 7 entries
+
+-- where fields, pages and memory are
+pub places :
+    let m = wide (last 0x0300 0x8200) (live 0x0300 0xFFFF User false) in
+    (placeOf 0 0 ∷ placeOf 1 0 ∷ placeOf 0 1 ∷ placeOf 1 1 ∷ placeOf 0 127 ∷ placeOf 1 127 ∷ [] ≡ 0 ∷ 1 ∷ 2 ∷ 3 ∷ 254 ∷ 255 ∷ [])
+    × (fieldOf m 0 126 ∷ fieldOf m 0 127 ∷ fieldOf m 1 127 ∷ fieldOf m 0 128 ∷ [] ≡ 0 ∷ 0x0300 ∷ 0x8200 ∷ 0 ∷ [])
+    × (map (pageOf m) (0 ∷ 511 ∷ 512 ∷ 65535 ∷ 65536 ∷ []) ≡ 0 ∷ 0 ∷ 1 ∷ 127 ∷ 128 ∷ [])
+    × (memorySize m ∷ memorySize (whole 3 5 [] (live 0 0 User false) 0 [] 1 0 []) ∷ [] ≡ 65536 ∷ 96 ∷ [])
+places = (refl, refl, refl, refl)
+
+-- what calls on a machine answer, each by itself
+abbrev Answers : (Machine → Call → Answered) → Machine → List (Call × ℕ) → Type 0
+Answers made m rows = map (λ row. made m (row .0) .number) rows ≡ map (λ row. row .1) rows
+
+-- a grant and a revocation, which have one list of conditions
+abbrev both : ℕ → ℕ → ℕ → ℕ → List (Call × ℕ) → List (Call × ℕ)
+both right p s number rest =
+    (Grant right (record { 0 = p }) (record { 0 = s }), number) ∷ (Revoke right (record { 0 = p }) (record { 0 = s }), number) ∷ rest
+
+pub last-page-order :
+    (Answers callOf (wide (last 0x0300 0x8200) (live 0x0300 0xFFFF User false))
+    ((Access 0 65535, 0)
+    ∷ (Access 1 65024, 0)
+    ∷ (Access 0 65023, 9)
+    ∷ (Access 1 65023, 9)
+    ∷ (Access 0 65536, 3)
+    ∷ (Access 1 4294967295, 3)
+    ∷ (Access 3 65535, 2)
+    ∷ (Access 255 65536, 2)
+    ∷ both 255 128 16 2
+    (both 3 127 9 2
+    (both 1 128 16 4
+    (both 0 65535 15 4
+    (both 0 127 16 5
+    (both 1 127 65535 5
+    (both 0 126 15 11
+    (both 1 126 15 11
+    (both 0 127 7 12
+    (both 0 127 8 12
+    (both 0 127 9 0
+    (both 0 127 15 0
+    (both 1 127 8 12
+    (both 1 127 9 12
+    (both 1 127 10 0
+    (both 1 127 15 0
+    ((StoreField 255 (record { 0 = 128 }) 0, 2)
+    ∷ (StoreField 1 (record { 0 = 128 }) 0, 4)
+    ∷ (StoreField 1 (record { 0 = 127 }) 0, 7)
+    ∷ (StoreMode 255, 17)
+    ∷ []))))))))))))))))))
+    × (Answers callOf (wide (last 0x0300 0x8200) (live 0x8100 0xFFFF User false))
+    ((Access 1 65535, 0) ∷ both 0 127 9 0 (both 1 127 15 11 [])))
+    × (Answers callOf (wide (last 0x0300 0x8200) (live 0xFFFF 0x0200 User false)) ((Access 0 65535, 0) ∷ both 0 127 15 11 (both 1 127 15 0 [])))
+    × (Answers callOf (wide (last 0x0300 0x8200) (live 0x0200 0xFFFF User false)) ((Access 0 65535, 0) ∷ both 0 127 15 11 (both 1 127 15 0 [])))
+unfolding callOf checksOf accessChecks changeChecks isSound prevailing domainBit trailingZeros
+last-page-order = (refl, refl, refl, refl)
+
+-- a machine, a call that is made on it, and the number and the machine after it
+abbrev Outcomes : (Machine → Call → Answered) → List (Machine × Call × ℕ × Machine) → Type 0
+Outcomes made rows = map (λ row. made (row .0) (row .1)) rows ≡ map (λ row. record { number = row .2; machine = row .3 }) rows
+
+pub last-page-outcomes :
+    let r = live 0x0300 0xFFFF User false in
+    let m = wide (last 0x0300 0x8200) r in
+    let page : Page = record { 0 = 127 } in
+    Outcomes callOf
+    ((m, Access 0 65535, 0, m)
+    ∷ (m, Access 1 65023, 9, wide (last 0x0300 0x8200) (live 0x0300 0xFFFF User true))
+    ∷ (m, Access 1 65536, 3, m)
+    ∷ (m, Grant 0 page (record { 0 = 15 }), 0, wide (last 0x8300 0x8200) r)
+    ∷ (m, Grant 0 page (record { 0 = 9 }), 0, m)
+    ∷ (m, Grant 1 page (record { 0 = 12 }), 0, wide (last 0x0300 0x9200) r)
+    ∷ (m, Grant 1 page (record { 0 = 15 }), 0, m)
+    ∷ (m, Grant 1 page (record { 0 = 9 }), 12, m)
+    ∷ (m, Grant 1 (record { 0 = 126 }) (record { 0 = 15 }), 11, m)
+    ∷ (m, Revoke 0 page (record { 0 = 9 }), 0, wide (last 0x0100 0x8200) r)
+    ∷ (m, Revoke 0 page (record { 0 = 10 }), 0, m)
+    ∷ (m, Revoke 1 page (record { 0 = 15 }), 0, wide (last 0x0300 0x0200) r)
+    ∷ (m, Revoke 1 page (record { 0 = 14 }), 0, m)
+    ∷ (m, Revoke 0 page (record { 0 = 8 }), 12, m)
+    ∷ (m, SetMask 0xFC00, 0, wide (last 0x0300 0x8200) (live 0x0300 0xFC00 User false))
+    ∷ (m, Return, 7, m)
+    ∷ [])
+unfolding callOf checksOf accessChecks changeChecks effectOf after isSound prevailing domainBit trailingZeros
+last-page-outcomes = refl
+
+-- the last program and the last stack place, of a machine whose every part differs from zero
+abbrev kernel : List ℕ → Registers → ℕ → List Bool → ℕ → List Program → Machine
+kernel fields registers depth saved current table = whole 128 9 fields registers depth saved 8 current table
+
+abbrev marked : Bool → Bool → List Bool
+marked first eighth = first ∷ true ∷ false ∷ true ∷ false ∷ false ∷ true ∷ eighth ∷ []
+
+abbrev from-last : Program → List Program
+from-last eighth =
+    stored 1 11 User ∷ stored 2 12 User ∷ stored 3 13 User ∷ stored 4 14 User ∷ stored 5 15 User ∷ stored 6 16 User ∷ stored 7 17 Privileged
+    ∷ eighth ∷ []
+
+pub kernel-outcomes :
+    let f = last 0x0300 0x8200 in
+    let r = live 0x0300 0xFF00 Privileged false in
+    let one = kernel f r 1 (marked false true) 7 entries in
+    Outcomes callOf
+    ((one, Switch 6, 0, kernel f (live 7 17 Privileged false) 1 (marked true true) 6 (from-last (stored 0x0300 0xFF00 User)))
+    ∷ (one, Switch 0, 0, kernel f (live 1 11 Privileged false) 1 (marked false true) 0 (from-last (stored 0x0300 0xFF00 User)))
+    ∷ (one, Switch 7, 0, kernel f r 1 (marked false true) 7 (from-last (stored 0x0300 0xFF00 User)))
+    ∷ (one, Switch 8, 16, one)
+    ∷ (
+      kernel f r 1 (marked true true) 7 entries,
+      Switch 1,
+      0,
+      kernel f (live 2 12 Privileged false) 1 (marked false true) 1 (from-last (stored 0x0300 0xFF00 Privileged)),
+    )
+    ∷ (kernel f r 2 (marked true true) 7 entries, Switch 1, 15, kernel f r 2 (marked true true) 7 entries)
+    ∷ (kernel f r 7 (marked true false) 7 entries, Enter, 0, kernel f r 8 (marked true true) 7 entries)
+    ∷ (kernel f (live 0x0300 0xFF00 User true) 7 (marked true true) 7 entries, Enter, 0, kernel f r 8 (marked true false) 7 entries)
+    ∷ (kernel f r 8 (marked true true) 7 entries, Enter, 13, kernel f r 8 (marked true true) 7 entries)
+    ∷ (kernel f r 8 (marked true true) 7 entries, Return, 0, kernel f r 7 (marked true false) 7 entries)
+    ∷ (kernel f r 8 (marked true false) 7 entries, Return, 0, kernel f (live 0x0300 0xFF00 User false) 7 (marked true false) 7 entries)
+    ∷ (one, Return, 0, kernel f (live 0x0300 0xFF00 User false) 0 (marked false true) 7 entries)
+    ∷ (one, SetMask 0, 6, one)
+    ∷ (one, Access 1 0, 0, one)
+    ∷ (one, StoreField 0 (record { 0 = 127 }) 0xFFFF, 0, kernel (last 0xFFFF 0x8200) r 1 (marked false true) 7 entries)
+    ∷ (one, StoreField 1 (record { 0 = 127 }) 0x00FF, 0, kernel (last 0x0300 0x00FF) r 1 (marked false true) 7 entries)
+    ∷ (one, StoreField 1 (record { 0 = 128 }) 0x00FF, 4, one)
+    ∷ (one, StoreContext 0xFFFF, 0, kernel f (live 0xFFFF 0xFF00 Privileged false) 1 (marked false true) 7 entries)
+    ∷ (one, StoreMask 0x00FF, 0, kernel f (live 0x0300 0x00FF Privileged false) 1 (marked false true) 7 entries)
+    ∷ (one, StoreMode 0, 0, kernel f (live 0x0300 0xFF00 User false) 1 (marked false true) 7 entries)
+    ∷ (one, StoreMode 1, 0, one)
+    ∷ (one, StoreMode 2, 17, one)
+    ∷ [])
+unfolding callOf checksOf accessChecks effectOf entered returned switched after isSound
+kernel-outcomes = refl
+
+-- ---- both ends of each range of soundness
+
+abbrev ranged : ℕ → ℕ → ℕ → ℕ → ℕ → Mode → Bool → Machine
+ranged pages exponent depth programs current mode pending = whole pages exponent [] (live 0 0 mode pending) depth [] programs current []
+
+pub ends-sound :
+    map isSound
+    (ranged 1 8 0 1 0 User false
+    ∷ ranged 128 8 0 1 0 User false
+    ∷ ranged 1 5 0 1 0 User false
+    ∷ ranged 1 12 0 1 0 User false
+    ∷ ranged 1 8 8 1 0 User false
+    ∷ ranged 1 8 0 8 7 User false
+    ∷ ranged 16 12 0 1 0 User false
+    ∷ ranged 64 10 0 1 0 User false
+    ∷ ranged 1 8 0 1 0 User true
+    ∷ ranged 1 8 0 1 0 Privileged false
+    ∷ [])
+    ≡ replicate 10 true
+unfolding isSound
+ends-sound = refl
+
+pub past-ends-not-sound :
+    map isSound
+    (ranged 0 8 0 1 0 User false
+    ∷ ranged 129 5 0 1 0 User false
+    ∷ ranged 1 4 0 1 0 User false
+    ∷ ranged 1 13 0 1 0 User false
+    ∷ ranged 1 8 9 1 0 User false
+    ∷ ranged 1 8 0 0 0 User false
+    ∷ ranged 1 8 0 9 0 User false
+    ∷ ranged 17 12 0 1 0 User false
+    ∷ ranged 65 10 0 1 0 User false
+    ∷ ranged 128 10 0 1 0 User false
+    ∷ ranged 1 8 0 1 1 User false
+    ∷ ranged 1 8 0 7 7 User false
+    ∷ ranged 1 8 0 1 0 Privileged true
+    ∷ [])
+    ≡ replicate 13 false
+unfolding isSound
+past-ends-not-sound = refl
+
+-- ---- calls without the check for 1, on machines that are not sound; with it they answer 1 and change nothing
+
+abbrev loose : ℕ → ℕ → ℕ → Mode → Bool → Machine
+loose depth programs current mode pending =
+    whole 3 8 (1 ∷ 2 ∷ []) (live 0x0101 0xFF01 mode pending) depth (replicate 8 true) programs current (replicate 8 (stored 1 2 Privileged))
+
+pub unchecked-order :
+    (Answers uncheckedOf (loose 9 2 0 User false)
+    ((Access 2 0, 2) ∷ (Access 0 768, 3) ∷ (Access 0 0, 0) ∷ (Access 1 0, 9) ∷ (SetMask 0, 0) ∷ (Enter, 13) ∷ (Return, 7) ∷ (Switch 0, 7) ∷ []))
+    × (Answers uncheckedOf (loose 255 2 0 Privileged false) ((Enter, 13) ∷ (Return, 0) ∷ (Switch 0, 15) ∷ []))
+    × (Answers uncheckedOf (loose 0 2 2 User false) ((Enter, 0) ∷ (Return, 7) ∷ (Switch 3, 7) ∷ []))
+    × (Answers uncheckedOf (loose 0 2 2 Privileged false) ((Return, 14) ∷ (Switch 3, 10) ∷ (Switch 0, 10) ∷ []))
+    × (Answers uncheckedOf (loose 1 2 1 Privileged false) ((Switch 2, 16) ∷ (Switch 1, 0) ∷ []))
+    × (Answers uncheckedOf (loose 0 2 1 Privileged false) ((Switch 2, 15) ∷ []))
+    × (Answers uncheckedOf (loose 0 2 0 Privileged true)
+    ((Access 1 0, 0) ∷ (Access 1 768, 3) ∷ both 0 0 3 6 (both 0 0 16 5 ((SetMask 0, 6) ∷ (Enter, 0) ∷ []))))
+    × (Answers uncheckedOf (loose 0 2 0 User true)
+    ((Access 1 0, 8) ∷ (Access 0 0, 8) ∷ both 0 0 3 8 ((SetMask 0, 8) ∷ (StoreMode 2, 17) ∷ (StoreMode 1, 7) ∷ [])))
+unfolding uncheckedOf checksOf accessChecks changeChecks prevailing domainBit trailingZeros
+unchecked-order = (refl, refl, refl, refl, refl, refl, refl, refl)
+
+-- past its eight places the stack gives user and past its eight entries the table gives an empty one, and nothing is stored there
+pub unchecked-outcomes :
+    let empty = loose 9 2 0 User false in
+    let deep = loose 9 2 0 Privileged false in
+    let many = loose 1 9 8 Privileged false in
+    Outcomes uncheckedOf
+    ((empty, SetMask 7, 0, withRegisters (live 0x0101 7 User false) empty)
+    ∷ (empty, Access 1 0, 9, withRegisters (live 0x0101 0xFF01 User true) empty)
+    ∷ (empty, Enter, 13, empty)
+    ∷ (deep, Return, 0, withRegisters (live 0x0101 0xFF01 User false) (loose 8 2 0 Privileged false))
+    ∷ (
+      many,
+      Switch 8,
+      0,
+      whole 3 8 (1 ∷ 2 ∷ []) (live 0 0 Privileged false) 1 (false ∷ replicate 7 true) 9 8 (replicate 8 (stored 1 2 Privileged)),
+    )
+    ∷ (many, StoreContext 5, 0, withRegisters (live 5 0xFF01 Privileged false) many)
+    ∷ [])
+unfolding uncheckedOf checksOf accessChecks effectOf entered returned switched after
+unchecked-outcomes = refl
+
+pub checked-outcomes :
+    let m = loose 9 2 0 User false in
+    Outcomes callOf
+    ((m, SetMask 7, 1, m) ∷ (m, Access 1 0, 1, m) ∷ (m, Enter, 1, m) ∷ (m, Return, 1, m) ∷ (m, StoreMode 2, 1, m) ∷ [])
+unfolding callOf after isSound
+checked-outcomes = refl
+
+-- ---- the parts of a machine, put in one by one
+
+-- two machines that differ in every part
+abbrev one-machine : Machine
+one-machine = whole 1 5 (1 ∷ []) (live 1 2 Privileged true) 1 (true ∷ []) 1 1 (stored 1 2 Privileged ∷ [])
+
+pub parts-put-in :
+    withFields (2 ∷ []) one-machine
+    ∷ withRegisters (live 3 4 User false) one-machine
+    ∷ withStack 2 (false ∷ []) one-machine
+    ∷ withPrograms 2 (stored 3 4 User ∷ []) one-machine
+    ∷ withLent (2 ∷ []) (false ∷ []) one-machine
+    ∷ violated (withRegisters (live 3 4 User false) one-machine)
+    ∷ []
+    ≡ whole 1 5 (2 ∷ []) (live 1 2 Privileged true) 1 (true ∷ []) 1 1 (stored 1 2 Privileged ∷ [])
+    ∷ whole 1 5 (1 ∷ []) (live 3 4 User false) 1 (true ∷ []) 1 1 (stored 1 2 Privileged ∷ [])
+    ∷ whole 1 5 (1 ∷ []) (live 1 2 Privileged true) 2 (false ∷ []) 1 1 (stored 1 2 Privileged ∷ [])
+    ∷ whole 1 5 (1 ∷ []) (live 1 2 Privileged true) 1 (true ∷ []) 1 2 (stored 3 4 User ∷ [])
+    ∷ whole 1 5 (2 ∷ []) (live 1 2 Privileged true) 1 (false ∷ []) 1 1 (stored 1 2 Privileged ∷ [])
+    ∷ whole 1 5 (1 ∷ []) (live 3 4 User true) 1 (true ∷ []) 1 1 (stored 1 2 Privileged ∷ [])
+    ∷ []
+parts-put-in = refl
+
+-- what comes back of a call on lent parts: its number and its machine, but the caller's fields and stack
+pub kept-back :
+    let own = whole 2 6 (3 ∷ []) (live 5 6 User false) 3 (false ∷ []) 2 2 [] in
+    let answer : Answered = record { number = 7; machine = one-machine } in
+    _≡_ {A = Answered} (keeping own answer) (record {
+      number = 7;
+      machine = whole 1 5 (3 ∷ []) (live 1 2 Privileged true) 1 (false ∷ []) 1 1 (stored 1 2 Privileged ∷ []);
+    })
+kept-back = refl
+
+-- modes of a machine, and the grant and the revocation that a flag tells apart
+pub told-apart :
+    (inPrivilegedMode one-machine ∷ inUserMode one-machine ∷ inPrivilegedMode zero ∷ inUserMode zero ∷ [] ≡ true ∷ false ∷ false ∷ true ∷ [])
+    × (changeCall true 1 (record { 0 = 2 }) (record { 0 = 3 }) ∷ changeCall false 1 (record { 0 = 2 }) (record { 0 = 3 }) ∷ []
+    ≡ Grant 1 (record { 0 = 2 }) (record { 0 = 3 }) ∷ Revoke 1 (record { 0 = 2 }) (record { 0 = 3 }) ∷ [])
+told-apart = (refl, refl)
+
+-- the machine after a call: the effect on 0, the flag set on 9, the machine before it on every other number
+pub after-numbers :
+    let m = whole 1 5 [] (live 1 2 User false) 0 [] 1 0 [] in
+    let effect = whole 2 6 [] (live 3 4 User false) 0 [] 1 0 [] in
+    map (λ (n : ℕ). after n m effect) (0 ∷ 1 ∷ 2 ∷ 8 ∷ 9 ∷ 10 ∷ 11 ∷ 18 ∷ [])
+    ≡ effect ∷ m ∷ m ∷ m ∷ whole 1 5 [] (live 1 2 User true) 0 [] 1 0 [] ∷ m ∷ m ∷ m ∷ []
+unfolding after
+after-numbers = refl
+
+-- ---- the numbers that document 01 lists, and no others
+
+pub numbers-listed :
+    (map listed
+    (Access 0 0
+    ∷ Grant 0 (record { 0 = 0 }) (record { 0 = 0 })
+    ∷ Revoke 0 (record { 0 = 0 }) (record { 0 = 0 })
+    ∷ SetMask 0
+    ∷ Enter
+    ∷ Return
+    ∷ Switch 0
+    ∷ StoreField 0 (record { 0 = 0 }) 0
+    ∷ StoreContext 0
+    ∷ StoreMask 0
+    ∷ StoreMode 0
+    ∷ [])
+    ≡ (0 ∷ 1 ∷ 2 ∷ 3 ∷ 8 ∷ 9 ∷ [])
+    ∷ (0 ∷ 1 ∷ 2 ∷ 4 ∷ 5 ∷ 6 ∷ 8 ∷ 11 ∷ 12 ∷ [])
+    ∷ (0 ∷ 1 ∷ 2 ∷ 4 ∷ 5 ∷ 6 ∷ 8 ∷ 11 ∷ 12 ∷ [])
+    ∷ (0 ∷ 1 ∷ 6 ∷ 8 ∷ [])
+    ∷ (0 ∷ 1 ∷ 13 ∷ [])
+    ∷ (0 ∷ 1 ∷ 7 ∷ 14 ∷ [])
+    ∷ (0 ∷ 1 ∷ 7 ∷ 10 ∷ 15 ∷ 16 ∷ [])
+    ∷ (0 ∷ 1 ∷ 2 ∷ 4 ∷ 7 ∷ [])
+    ∷ (0 ∷ 1 ∷ 7 ∷ [])
+    ∷ (0 ∷ 1 ∷ 7 ∷ [])
+    ∷ (0 ∷ 1 ∷ 17 ∷ 7 ∷ [])
+    ∷ [])
+    × (soundNumbers ≡ 0 ∷ 2 ∷ 3 ∷ 4 ∷ 5 ∷ 6 ∷ 7 ∷ 8 ∷ 9 ∷ 11 ∷ 12 ∷ 13 ∷ 14 ∷ 15 ∷ 16 ∷ 17 ∷ [])
+    × (map (λ (n : ℕ). isIn n (3 ∷ 5 ∷ [])) (0 ∷ 3 ∷ 4 ∷ 5 ∷ 6 ∷ []) ≡ false ∷ true ∷ false ∷ true ∷ false ∷ [])
+numbers-listed = (refl, refl, refl)

@@ -1,0 +1,99 @@
+-- What the definitions of this crate come to, written out byte by byte: each word, each remainder, each power of ten, lines past the ninth, and
+-- the ends of the buffer. All is computed but the last law, which says what it is to store a text.
+use Prim.Native.Nat.{ℕ}
+use mathlib.Core.Path.{_≡_, refl}
+use mathlib.Core.List.{List, [], _∷_, _++_, map}
+use lib.ListN.{replicate, set}
+use Rattle.image.specs.Description.{machineOf}
+use Rattle.image.specs.Load.{loadOf, loadChecks, lengthTests, kindTests, shapeEntryTests, shapeTests, bodyTests, describe}
+use Rattle.image.specs.Sample.{sampleBytes}
+use Rattle.machine.specs.Machine.{isSound}
+use Rattle.machine.specs.Calls.{callOf, checksOf, accessChecks, effectOf, entered, returned, after}
+use Rattle.run.specs.Records.{callsOf, callOfKind, stepBy}
+use Rattle.run.specs.Run.{answersFrom, callAnswers}
+use Rattle.text.specs.Text.{letters, leadingDigit, decimalOf, lineOf, linesFrom, cutOf, loadLine, runText, textOf, printed}
+use Rattle.text.specs.Put.{Put}
+
+-- words as their bytes
+pub words :
+    letters "load 0\n" ∷ letters "cut\n" ∷ letters "long\n" ∷ letters "" ∷ []
+    ≡ (108 ∷ 111 ∷ 97 ∷ 100 ∷ 32 ∷ 48 ∷ 10 ∷ []) ∷ (99 ∷ 117 ∷ 116 ∷ 10 ∷ []) ∷ (108 ∷ 111 ∷ 110 ∷ 103 ∷ 10 ∷ []) ∷ [] ∷ []
+words = refl
+
+-- both sides of each power of ten
+pub decimals :
+    map decimalOf (0 ∷ 1 ∷ 9 ∷ 10 ∷ 11 ∷ 99 ∷ 100 ∷ 101 ∷ 110 ∷ 999 ∷ 1000 ∷ 1001 ∷ 9999 ∷ 10000 ∷ 10001 ∷ 32768 ∷ 98765 ∷ [])
+    ≡ (48 ∷ [])
+    ∷ (49 ∷ [])
+    ∷ (57 ∷ [])
+    ∷ (49 ∷ 48 ∷ [])
+    ∷ (49 ∷ 49 ∷ [])
+    ∷ (57 ∷ 57 ∷ [])
+    ∷ (49 ∷ 48 ∷ 48 ∷ [])
+    ∷ (49 ∷ 48 ∷ 49 ∷ [])
+    ∷ (49 ∷ 49 ∷ 48 ∷ [])
+    ∷ (57 ∷ 57 ∷ 57 ∷ [])
+    ∷ (49 ∷ 48 ∷ 48 ∷ 48 ∷ [])
+    ∷ (49 ∷ 48 ∷ 48 ∷ 49 ∷ [])
+    ∷ (57 ∷ 57 ∷ 57 ∷ 57 ∷ [])
+    ∷ (49 ∷ 48 ∷ 48 ∷ 48 ∷ 48 ∷ [])
+    ∷ (49 ∷ 48 ∷ 48 ∷ 48 ∷ 49 ∷ [])
+    ∷ (51 ∷ 50 ∷ 55 ∷ 54 ∷ 56 ∷ [])
+    ∷ (57 ∷ 56 ∷ 55 ∷ 54 ∷ 53 ∷ [])
+    ∷ []
+unfolding decimalOf
+decimals = refl
+
+-- lines of one and of two digits on each side, in order; the load's line for each of its answers
+pub lines-written :
+    (linesFrom 1 (0 ∷ 18 ∷ []) ≡ letters "1 0\n2 18\n")
+    × (linesFrom 9 (9 ∷ 12 ∷ 0 ∷ []) ≡ letters "9 9\n10 12\n11 0\n")
+    × (linesFrom 5461 (17 ∷ []) ≡ letters "5461 17\n")
+    × (map loadLine (0 ∷ 20 ∷ 21 ∷ 22 ∷ 23 ∷ 24 ∷ 25 ∷ [])
+    ≡ map letters ("load 0\n" ∷ "load 20\n" ∷ "load 21\n" ∷ "load 22\n" ∷ "load 23\n" ∷ "load 24\n" ∷ "load 25\n" ∷ []))
+unfolding linesFrom lineOf decimalOf loadLine
+lines-written = (refl, refl, refl, refl)
+
+-- each remainder of a division by six
+pub remainders :
+    map (λ (n : ℕ). cutOf (replicate n 0)) (0 ∷ 1 ∷ 2 ∷ 3 ∷ 4 ∷ 5 ∷ 6 ∷ 7 ∷ 8 ∷ 9 ∷ 10 ∷ 11 ∷ 12 ∷ [])
+    ≡ [] ∷ (replicate 5 (letters "cut\n") ++ ([] ∷ (replicate 5 (letters "cut\n") ++ ([] ∷ []))))
+unfolding cutOf
+remainders = refl
+
+-- whole texts: a sample run with an unknown record and an entry, with remainders of 1 to 5 bytes and without calls; refused loads; long inputs
+pub texts :
+    let sample : List ℕ → List ℕ = λ calls. 0x00 ∷ 0x2C ∷ (sampleBytes ++ calls) in
+    let two : List ℕ → List ℕ = λ rest. 0x0C ∷ 0x00 ∷ 0x00 ∷ 0x00 ∷ 0x00 ∷ 0x00 ∷ 0x06 ∷ 0x00 ∷ 0x00 ∷ 0x00 ∷ 0x00 ∷ 0x00 ∷ rest in
+    (map textOf
+    (sample []
+    ∷ sample (5 ∷ [])
+    ∷ sample (two [])
+    ∷ sample (two (5 ∷ 0 ∷ []))
+    ∷ sample (two (5 ∷ 0 ∷ 0 ∷ []))
+    ∷ sample (two (5 ∷ 0 ∷ 0 ∷ 0 ∷ []))
+    ∷ sample (two (5 ∷ 0 ∷ 0 ∷ 0 ∷ 0 ∷ []))
+    ∷ [])
+    ≡ map letters
+    ("load 0\n"
+    ∷ "load 0\ncut\n"
+    ∷ "load 0\n1 18\n2 7\n"
+    ∷ "load 0\n1 18\n2 7\ncut\n"
+    ∷ "load 0\n1 18\n2 7\ncut\n"
+    ∷ "load 0\n1 18\n2 7\ncut\n"
+    ∷ "load 0\n1 18\n2 7\ncut\n"
+    ∷ []))
+    × (map textOf ([] ∷ (7 ∷ []) ∷ (0x00 ∷ 0x2C ∷ (set sampleBytes 38 2 ++ 0x05 ∷ [])) ∷ replicate 32768 0 ∷ replicate 32769 0 ∷ [])
+    ≡ map letters ("load 20\n" ∷ "load 20\n" ∷ "load 25\n" ∷ "load 20\n" ∷ "long\n" ∷ []))
+unfolding textOf runText loadLine decimalOf linesFrom lineOf cutOf sampleBytes callAnswers answersFrom callsOf callOfKind stepBy loadOf loadChecks lengthTests kindTests shapeEntryTests shapeTests bodyTests describe machineOf callOf checksOf accessChecks effectOf entered returned after isSound
+texts = (refl, refl)
+
+-- the text in a buffer of 100,000 bytes and more, and nothing in a shorter one
+pub buffers :
+    map (printed []) (0 ∷ 8 ∷ 99999 ∷ 100000 ∷ 100001 ∷ []) ≡ [] ∷ [] ∷ [] ∷ letters "load 20\n" ∷ letters "load 20\n" ∷ []
+unfolding printed textOf runText loadLine decimalOf loadOf loadChecks lengthTests
+buffers = refl
+
+-- storing two bytes from place 1 on: the four bytes of the buffer after it, and the place past them
+pub put-means : (exit : List ℕ) (past : ℕ) → Put (1 ∷ 2 ∷ 3 ∷ 4 ∷ []) 1 (8 ∷ 9 ∷ []) exit past → (exit ≡ 1 ∷ 8 ∷ 9 ∷ 4 ∷ []) × (past ≡ 3)
+put-means exit past put = (put .stored, put .next)
