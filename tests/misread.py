@@ -88,7 +88,7 @@ def laws(files):
     """The law file of each declaration that stands in one alone."""
     found = {}
     for file in files:
-        for name in set(re.findall(r'^(?:pub )?(\S+) :(?: |$)', file.read_text(encoding='utf-8'), re.M)):
+        for name in set(re.findall(r'^ *(?:pub )?(\S+) :(?: |$)', file.read_text(encoding='utf-8'), re.M)):
             found[name] = None if name in found else file
     return {name: file for name, file in found.items() if file}
 
