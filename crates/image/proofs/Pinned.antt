@@ -19,7 +19,7 @@ use Rattle.machine.specs.declared.record.Answered.{Answered}
 use Rattle.machine.specs.declared.record.Call.{Call}
 use Rattle.machine.specs.declared.record.Call.the-variants.{Access, Grant, Revoke, SetMask, Return}
 use Rattle.image.specs.Bytes.{byteAt, wordOf, wordAt, word, entries, bodies}
-use Rattle.image.specs.Description.{Description, bytesOf, machineOf, pad}
+use Rattle.image.specs.Description.{bytesOf, machineOf, pad}
 use Rattle.image.specs.Load.{describe, loadChecks, loadOf, lengthTests, kindTests, shapeEntryTests, shapeTests, bodyTests}
 use Rattle.image.specs.Sample.{sampleBytes, sampleMachine}
 use Rattle.image.specs.Starred.{Case, starred, outcome, expected}

@@ -17,7 +17,7 @@ use Rattle.machine.specs.declared.record.Program.{Program}
 use Rattle.machine.specs.declared.record.Call.{Call}
 use Rattle.machine.specs.declared.record.Call.the-variants.{Access, Enter, Grant, Return, Revoke, SetMask, Switch}
 use Rattle.image.specs.Load.{loadOf}
-use Rattle.isolation.specs.Histories.{Command, access, grant, revoke, setMask, History, Made, Turn, TurnCalls, callsOf, commandCall, turnCalls, turnsOf}
+use Rattle.isolation.specs.Histories.{Command, access, grant, revoke, setMask, History, Made, Turn, TurnCalls, callsOf, turnsOf}
 use Rattle.isolation.specs.Isolation.{Apart, InTable, Isolated, Observation, ThirdDemand, contextOf, observed, observedFrom, ownTurns, rightsOf, takenOut}
 
 abbrev unused : Program

@@ -127,9 +127,13 @@ fn serve_all(start: Machine, requests: [Request; 3]) -> Served
     }
 }
 
-fn print(number: u8) {
+// Prints a number on a line of its own, and hands it back.
+fn print(number: u8) -> u8
+    ensures { λ r. ⌜ r ≡ number ⌝ }
+{
     io::print_decimal(STDOUT_FILENO, number as u64);
     io::write_all(STDOUT_FILENO, b"\n");
+    number
 }
 
 // The sample node: a load, three requests of program 0 of which a violation and the one after it are refused, an interrupt in which its registers are stored, the turn of program 1, and three of

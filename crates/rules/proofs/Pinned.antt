@@ -11,8 +11,6 @@ use Rattle.rules.specs.Domains.{isDomain, domainBit, holds, prevailing, 
 use Rattle.rules.specs.declared.registers.Mode.{Mode}
 use Rattle.rules.specs.declared.registers.Mode.the-variants.{User, Privileged}
 use Rattle.rules.specs.declared.registers.Registers.{Registers}
-use Rattle.rules.specs.declared.registers.Masked.{Masked}
-use Rattle.rules.specs.declared.domains.Prevailing.{Prevailing}
 use Rattle.rules.specs.declared.domains.Prevailing.the-variants.{Absent, At}
 
 -- the first condition that is met decides, and 0 stands for none

@@ -19,8 +19,7 @@ use Rattle.machine.specs.declared.record.Machine.{Machine}
 use Rattle.machine.specs.declared.record.Answered.{Answered}
 use Rattle.machine.specs.declared.record.Call.the-variants.{Access, Grant, Revoke, SetMask, Enter, Return, Switch, StoreField, StoreContext, StoreMask, StoreMode}
 use Rattle.run.specs.Records.{callOfKind, callsOf, stepBy, stepOf, uncheckedStepOf}
-use Rattle.run.specs.Run.{answersFrom, answersOf, callAnswers, callBytes, imageOf, isLong, loadedOf, sent}
-use Rattle.run.specs.declared.records.Decoded.{Decoded}
+use Rattle.run.specs.Run.{answersFrom, answersOf, callAnswers, callBytes, imageOf, isLong, sent}
 use Rattle.run.specs.declared.records.Decoded.the-variants.{Known, Unknown}
 
 -- a right above 1 is read as it stands, every part that a call does not use is passed over, and no kind past 11 is known

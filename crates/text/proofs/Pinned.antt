@@ -11,7 +11,7 @@ use Rattle.machine.specs.Machine.{isSound}
 use Rattle.machine.specs.Calls.{callOf, checksOf, accessChecks, effectOf, entered, returned, after}
 use Rattle.run.specs.Records.{callsOf, callOfKind, stepBy}
 use Rattle.run.specs.Run.{answersFrom, callAnswers}
-use Rattle.text.specs.Text.{letters, leadingDigit, decimalOf, lineOf, linesFrom, cutOf, loadLine, runText, textOf, printed}
+use Rattle.text.specs.Text.{letters, decimalOf, lineOf, linesFrom, cutOf, loadLine, runText, textOf, printed}
 use Rattle.text.specs.Put.{Put}
 
 -- words as their bytes

@@ -1,12 +1,11 @@
 -- `kernel::begin_turn` meets its contract: the three calls in a row; that none is refused is `turn-begins`, whose premise on the stack's length holds
 -- of every machine that code has.
-use Prim.Native.Nat.{_<_}
 use mathlib.Core.Path.{_≡_, ap, _∙_}
 use native.Mathlib.Omega.{arith}
 use borrow.Author.Needs.{needs}
 use lib.ListN.{length}
 use Rattle.machine.specs.declared.record.Answered.{Answered}
-use Rattle.machine.specs.Calls.{callOf, entered, switched}
+use Rattle.machine.specs.Calls.{callOf}
 use Rattle.machine.specs.declared.record.Call.the-variants.{Switch, Return}
 use Rattle.machine.proofs.Turn.{turn-begins}
 use Rattle.kernel.specs.Kernel.{begunOf}

@@ -1,6 +1,6 @@
 -- `kernel::serve_all` meets its contract. The loop's invariant: with the refusals so far, what is left to serve comes to the whole. The measure is how
 -- many requests are left.
-use Prim.Native.Nat.{_+_, _-_, _≤_}
+use Prim.Native.Nat.{_-_, _≤_}
 use mathlib.Core.Path.{_≡_, sym, _∙_}
 use mathlib.Core.List.{[]}
 use native.Mathlib.Nat.{zero-add, add-zero}
