@@ -35,8 +35,9 @@ def refused(log, name):
     if re.search(rf'^fn \S*::{name}: no proof: .*does not close', log, re.M):
         return True
     if re.search(rf'^fn \S*::{name}: ', log, re.M):
-        # Any answer to a need counts, also one that stands in the line that puts the answers together, where a search finds none.
-        where = rf'/{name}/Proof\.antt:\d+:\d+: error: `(?!\S*-spec`: (?!`search`: no proof of))\S+`'
+        # Any answer to a need counts, also one that stands in the line that puts the answers together, where a search finds none or an
+        # equation is missing.
+        where = rf'/{name}/Proof\.antt:\d+:\d+: error: `(?!\S*-spec`: (?!`search`: no proof of|list the missing equation))\S+`'
     else:
         where = rf'/[A-Z]\w*\.antt:\d+:\d+: error: `{name}`'
     errors = re.findall(rf'{where}: (.*)', log)
