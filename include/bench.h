@@ -105,12 +105,12 @@
  * How much stack a call of bench_run should find free, in bytes. It is more
  * than twice the most that was measured:
  *
- * The function itself takes 1,840: the return address, six registers and
- * 1,784 bytes of locals, as its disassembly shows (objdump -d). It calls only
+ * The function itself takes 1,824: the return address, six registers and
+ * 1,768 bytes of locals, as its disassembly shows (objdump -d). It calls only
  * memcpy and memset, which puts 8 more there and what these two take. On a
- * stack filled with a pattern a call took 1,848, with glibc 2.36. Where a
+ * stack filled with a pattern a call took 1,832, with glibc 2.36. Where a
  * program is linked so that memcpy and memset are looked up when they are
- * first called, the first call took 3,384 to 3,432: the system's loader then
+ * first called, the first call took 3,368 to 3,432: the system's loader then
  * works on the same stack and saves the vector registers there (32 bytes each
  * on that processor; it takes more where they are wider).
  * tests/bench/stack.c measures both calls again.
