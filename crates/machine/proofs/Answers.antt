@@ -121,15 +121,18 @@ module _ (m : Machine) (call : Call) where
       let nine = first-avoids 9 (checksOf m call) never in
       rw (changed, number, nine)
 
-  -- the same by the two cases: the call is done, or it is refused
-  pub done : {n : ℕ} {end : Machine} → n ≡ ownNumberOf m call → n ≡ 0 → end ≡ effectOf m call
-      → _≡_ {A = Answered} (record { number = n; machine = end }) (uncheckedOf m call)
-  unfolding uncheckedOf after
-  done {n} {end} number none changed = rw (changed, ← number, none)
+  -- an answer by any number but 9, in its two cases: the call is done, or it is refused
+  pub done : {n k : ℕ} {end : Machine} → n ≡ k → n ≡ 0 → end ≡ effectOf m call
+      → _≡_ {A = Answered} (record { number = n; machine = end }) (answerBy k m call)
+  unfolding after
+  done {n} {k} {end} number none changed = rw (changed, ← number, none)
 
-  pub kept : {n : ℕ} {end : Machine} → n ≡ ownNumberOf m call → avoids 9 (checksOf m call) ≡ true → (n ≡ 0 → ⊥) → end ≡ m
-      → _≡_ {A = Answered} (record { number = n; machine = end }) (uncheckedOf m call)
-  kept {n} {end} number never refused same = answered number never (rw (ne-eqb n 0 refused) same)
+  pub kept : (checks : List Check) {n : ℕ} {end : Machine} → n ≡ first checks → avoids 9 checks ≡ true → (n ≡ 0 → ⊥) → end ≡ m
+      → _≡_ {A = Answered} (record { number = n; machine = end }) (answerBy (first checks) m call)
+  unfolding after
+  kept checks {n} {end} number never refused same =
+      let nine = first-avoids 9 checks never in
+      rw (same, ← number, ne-eqb n 0 refused) (rw (number, nine))
 
   -- one that changes the registers alone
   pub registers-answered : {n : ℕ} {r new : Registers} → n ≡ ownNumberOf m call → avoids 9 (checksOf m call) ≡ true

@@ -5,7 +5,7 @@ use mathlib.Core.Path.{_≡_, refl, ap, sym, _∙_}
 use mathlib.Core.Bool.{Bool, true}
 use mathlib.Core.List.{List}
 use Rattle.machine.specs.Machine.{withFields, withStack, withLent}
-use Rattle.machine.specs.Calls.{uncheckedOf, ownNumberOf, changeCall, checksOf, effectOf, keeping, violated}
+use Rattle.machine.specs.Calls.{uncheckedOf, answerBy, ownNumberOf, changeCall, checksOf, effectOf, keeping, violated}
 use Rattle.machine.specs.declared.record.Machine.{Machine}
 use Rattle.machine.specs.declared.record.Page.{Page}
 use Rattle.machine.specs.declared.record.Domain.{Domain}
@@ -62,15 +62,13 @@ access-own m right address =
     ap (λ (end : Machine). record { number = n; machine = end })
     (after-cases (λ end. withLent (m .fields) (m .saved) end ≡ end) n m m (λ _. refl) (λ _. refl) refl)
 
--- a call that leaves the fields alone is put together from its answer on a lent stack, the machine's own, and what it left there
-pub stack-own : (m : Machine) (call : Call) → effectOf m call .fields ≡ m .fields
+-- a call that leaves the fields alone is put together from its answer by a number on a lent stack, the machine's own, and what it left there
+pub stack-own : (m : Machine) (call : Call) (n : ℕ) → effectOf m call .fields ≡ m .fields
     → _≡_ {A = Answered} (record {
-      number = uncheckedOf m call .number;
-      machine = withStack (uncheckedOf m call .machine .depth) (uncheckedOf m call .machine .saved) (keeping m (uncheckedOf m call) .machine);
-    }) (uncheckedOf m call)
-unfolding uncheckedOf
-stack-own m call left =
-    let n = ownNumberOf m call in
+      number = n;
+      machine = withStack (answerBy n m call .machine .depth) (answerBy n m call .machine .saved) (keeping m (answerBy n m call) .machine);
+    }) (answerBy n m call)
+stack-own m call n left =
     ap (λ (end : Machine). record { number = n; machine = end })
     (after-cases (λ end. withFields (m .fields) end ≡ end) n m (effectOf m call)
     (λ _. ap (λ (fields : List ℕ). withFields fields (effectOf m call)) (sym left)) (λ _. refl) refl)

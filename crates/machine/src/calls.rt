@@ -37,13 +37,20 @@ ghost use Rattle.rules.specs.Domains.{prevailing, withBit, withoutBit};
 ghost use Rattle.rules.specs.Refusals.{pick, first, _⇒_};
 ghost use Rattle.machine.specs.Machine.{isSound, withFields, withStack};
 ghost use Rattle.machine.specs.declared.record.Call.{Call};
-ghost use Rattle.machine.specs.Calls.{callOf, uncheckedOf, keeping, changeCall, accessChecks, changeChecks, inUserMode, modeOf};
+ghost use Rattle.machine.specs.Calls.{callOf, uncheckedOf, answerBy, ownNumberOf, keeping, changeCall, accessChecks, changeChecks, inUserMode, modeOf};
 
 // The new value where a call was accepted, else the old one.
 fn chosen(done: bool, new: u16, old: u16) -> u16
     ensures { λ r. ⌜ r ≡ pick done new old ⌝ }
 {
     if done { new } else { old }
+}
+
+// A number behind the test for 1 (RULES 2.4).
+fn checked(unsound: bool, number: u8) -> u8
+    ensures { λ r. ⌜ r ≡ pick unsound 1 number ⌝ }
+{
+    if unsound { 1 } else { number }
 }
 
 // The bits of a field after an accepted grant or revocation.
@@ -317,20 +324,24 @@ impl Machine {
         answer.with_saved(saved)
     }
 
-    // Switch to a program on a lent stack, which it alters there (RULES 2.10).
-    pub fn switch_lent(mut self, saved: &mut [bool], program: u16) -> Answered
-        ensures { λ r. ⌜ r ≡ keeping self (uncheckedOf (withStack (self .depth) (now (saved .entry)) self) (Call.Switch program)) ⌝ }
-        ensures { λ _. ⌜ now (saved .exit) ≡ uncheckedOf (withStack (self .depth) (now (saved .entry)) self) (Call.Switch program) .machine .saved ⌝ }
+    // The switch on a lent stack behind a test for soundness that its caller made. The test is handed on, since the table goes through locals
+    // here, and a way round them to an answer of its own would cost two copies of the machine (docs/PERFORMANCE.md).
+    fn switch_tested(mut self, unsound: bool, saved: &mut [bool], program: u16) -> Answered
+        ensures { λ r. ⌜ r ≡ keeping self (answerBy (pick unsound 1 (ownNumberOf (withStack (self .depth) (now (saved .entry)) self) (Call.Switch program))) (withStack (self .depth) (now (saved .entry)) self) (Call.Switch program)) ⌝ }
+        ensures { λ _. ⌜ now (saved .exit) ≡ answerBy (pick unsound 1 (ownNumberOf (withStack (self .depth) (now (saved .entry)) self) (Call.Switch program))) (withStack (self .depth) (now (saved .entry)) self) (Call.Switch program) .machine .saved ⌝ }
     {
         let mut registers = self.registers;
         let mut current = self.current;
         let mut table = self.table;
         let programs = self.programs;
-        let number = switch_number(
-            !registers.privileged(),
-            !(current < programs),
-            !(self.depth == 1),
-            !(program < programs),
+        let number = checked(
+            unsound,
+            switch_number(
+                !registers.privileged(),
+                !(current < programs),
+                !(self.depth == 1),
+                !(program < programs),
+            ),
         );
         if number == 0 {
             let live = Program {
@@ -355,18 +366,20 @@ impl Machine {
         }
     }
 
+    // Switch to a program on a lent stack, which it alters there (RULES 2.10).
+    pub fn switch_lent(self, saved: &mut [bool], program: u16) -> Answered
+        ensures { λ r. ⌜ r ≡ keeping self (uncheckedOf (withStack (self .depth) (now (saved .entry)) self) (Call.Switch program)) ⌝ }
+        ensures { λ _. ⌜ now (saved .exit) ≡ uncheckedOf (withStack (self .depth) (now (saved .entry)) self) (Call.Switch program) .machine .saved ⌝ }
+    {
+        self.switch_tested(false, saved, program)
+    }
+
     // Switch to a program (RULES 3.14, 3.15).
     pub fn switch_to(self, program: u16) -> Answered
         ensures { λ r. ⌜ r ≡ callOf self (Call.Switch program) ⌝ }
     {
-        if !self.sound() {
-            return Answered {
-                number: 1,
-                machine: self,
-            };
-        }
         let mut saved = self.saved;
-        let answer = self.switch_lent(&mut saved, program);
+        let answer = self.switch_tested(!self.sound(), &mut saved, program);
         answer.with_saved(saved)
     }
 

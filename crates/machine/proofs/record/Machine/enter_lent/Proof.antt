@@ -7,7 +7,7 @@ use borrow.Author.Tests.{lt-ltb, le-ltb}
 use Rattle.rules.specs.Registers.{withMode}
 use Rattle.rules.specs.declared.registers.Mode.the-variants.{Privileged}
 use Rattle.machine.specs.Machine.{withStack}
-use Rattle.machine.specs.Calls.{checksOf, effectOf, entered, ownNumberOf}
+use Rattle.machine.specs.Calls.{uncheckedOf, checksOf, effectOf, entered, ownNumberOf}
 use Rattle.machine.specs.declared.record.Call.the-variants.{Enter}
 use Rattle.machine.proofs.Answers.{done, kept, with-stack}
 use Rattle.machine.proofs.LentParts.{lent-stack}
@@ -19,7 +19,7 @@ same-length : tie.Need-same-length
 same-length c = ⊎-elim (λ w. ap length (w .7 ∙ w .2 .ensures) ∙ simp length-set) (λ w. ap length (w .1)) (c .if1 .came)
 
 returns : tie.Need-returns
-unfolding checksOf effectOf entered
+unfolding uncheckedOf checksOf effectOf entered
 returns c =
     let start : tie.Start = (search) in
     let numbering : tie.After-entry-number = (search) in
@@ -33,7 +33,7 @@ returns c =
     done m Enter number (number ∙ rw (lt-ltb (own .depth) 8 (w .0 .taken)))
     (with-stack m (w .9) (w .7 ∙ w .2 .ensures) (w .8 ∙ w .6 .ensures ∙ ap (withMode Privileged) (w .5 .ensures))))
     (λ w.
-    kept m Enter number refl (λ z. let full : n ≡ 13 = number ∙ rw (le-ltb (own .depth) 8 (w .0 .left)) in omega (arith, full, z))
+    kept m Enter (checksOf m Enter) number refl (λ z. let full : n ≡ 13 = number ∙ rw (le-ltb (own .depth) 8 (w .0 .left)) in omega (arith, full, z))
     (with-stack m (w .3) (w .1) (w .2)))
     (c .if1 .came))
     refl

@@ -7,7 +7,7 @@ use lib.ListN.{length, getD, set, length-set}
 use Rattle.rules.specs.Registers.{modeWhere, withMode}
 use Rattle.rules.specs.declared.registers.Mode.{Mode}
 use Rattle.machine.specs.Machine.{withStack}
-use Rattle.machine.specs.Calls.{checksOf, effectOf, returned, ownNumberOf}
+use Rattle.machine.specs.Calls.{uncheckedOf, checksOf, effectOf, returned, ownNumberOf}
 use Rattle.machine.specs.declared.record.Call.the-variants.{Return}
 use Rattle.machine.proofs.Answers.{done, kept, with-stack}
 use Rattle.machine.proofs.LentParts.{lent-stack}
@@ -19,7 +19,7 @@ same-length : tie.Need-same-length
 same-length c = ⊎-elim (λ w. ap length (w .9 ∙ w .5 .ensures) ∙ simp length-set) (λ w. ap length (w .1)) (c .if1 .came)
 
 returns : tie.Need-returns
-unfolding checksOf effectOf returned
+unfolding uncheckedOf checksOf effectOf returned
 returns c =
     let start : tie.Start = (search) in
     let numbering : tie.After-return-number = (search) in
@@ -36,7 +36,7 @@ returns c =
     done m Return number (w .0 .taken)
     (with-stack m (w .11 ∙ top) (w .9 ∙ w .5 .ensures ∙ ap (λ (k : ℕ). set saved k false) top)
     (w .10 ∙ w .8 .ensures ∙ ap (λ (mode : Mode). withMode mode (own .registers)) last)))
-    (λ w. kept m Return number refl (w .0 .left) (with-stack m (w .3) (w .1) (w .2)))
+    (λ w. kept m Return (checksOf m Return) number refl (w .0 .left) (with-stack m (w .3) (w .1) (w .2)))
     (c .if1 .came))
     refl
 

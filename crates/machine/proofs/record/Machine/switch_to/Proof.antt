@@ -1,21 +1,19 @@
 -- `Machine::switch_to` meets its contract: the call on the machine's own stack, behind the test for soundness.
 use mathlib.Core.Path.{refl, _∙_}
-use Rattle.machine.specs.Calls.{effectOf, switched}
+use Rattle.machine.specs.Calls.{callOf, effectOf, switched}
 use Rattle.machine.specs.declared.record.Call.the-variants.{Switch}
 use Rattle.machine.proofs.LentParts.{stack-own}
-use Rattle.machine.proofs.Answers.{sound-answers, unsound-answers}
 use borrow.Author.Needs.{needs}
 use Rattle.machine.proofs.record.Machine.switch_to.Statement.{statement}
 use Rattle.machine.proofs.record.Machine.switch_to.Tie as tie
 
-returns-2 : tie.Need-returns-2
-unfolding effectOf switched
-returns-2 c =
-    let testing : tie.Else1 = (search) in
-    let lending : tie.After-switch-lent = (search) in
-    let made = lending .switch-lent .ensures in
-    sound-answers _ _ (testing .before .sound .ensures) (testing .if1 .left)
-    (c .with-saved .ensures ∙ rw (made .0, made .1) (stack-own _ (Switch _) refl))
+returns : tie.Need-returns
+unfolding callOf effectOf switched
+returns c =
+    let testing : tie.After-sound = (search) in
+    let lending : tie.After-switch-tested = (search) in
+    let made = lending .switch-tested .ensures in
+    c .with-saved .ensures ∙ rw (made .0, made .1, testing .sound .ensures) (stack-own _ (Switch _) _ refl)
 
 pub switch-to-spec : {M : Type 1} → statement M
-switch-to-spec = tie.close (tie.spec (λ c κs. search needs) (λ c. unsound-answers _ _ (c .before .sound .ensures) (c .if1 .taken)) (λ c. search needs) (λ c κs. search needs) (λ c κs. search needs) returns-2)
+switch-to-spec = tie.close (tie.spec (λ c κs. search needs) (λ c. search needs) (λ c κs. search needs) (λ c κs. search needs) returns)
