@@ -25,13 +25,13 @@ use Rattle.run.specs.declared.records.Decoded.{Decoded}
 use Rattle.run.specs.declared.records.Decoded.the-variants.{Known, Unknown}
 
 -- a step on a record that was decoded to a call is that call
-pub made : (fields : List ℕ) (saved : List Bool) (m : Machine) (call : Call) {r : Answered} {fields′ : List ℕ} {saved′ : List Bool} {decoded : Decoded}
-    → Lent fields saved m call r fields′ saved′ → decoded ≡ Known call
+pub made : (fields : List ℕ) (saved : List Bool) (m : Machine) (call : Call) {r : Answered} {fields′ : List ℕ} {saved′ : List Bool} {decoded : Decoded} {named : Call}
+    → Lent fields saved m call r fields′ saved′ → decoded ≡ Known named → named ≡ call
     → (r ≡ keeping m (uncheckedStepOf (withLent fields saved m) decoded))
     × ((fields′ ≡ uncheckedStepOf (withLent fields saved m) decoded .machine .fields)
     × (saved′ ≡ uncheckedStepOf (withLent fields saved m) decoded .machine .saved))
 unfolding stepBy
-made fields saved m call answer decodes = rw decodes answer
+made fields saved m call answer decodes names = rw (decodes, names) answer
 
 pub above : {n k : ℕ} → n ≤ k → (k ≡ n → ⊥) → n + 1 ≤ k
 above least other = omega arith

@@ -22,5 +22,7 @@ pub call-of-kind-spec : {M : Type 1} → statement M
 unfolding callOfKind
 call-of-kind-spec =
     tie.close
-    (tie.spec (λ c κs. search needs) (λ c. cc) (λ c. cc) (λ c. cc) (λ c. cc) (λ c. cc) (λ c. cc) (λ c. cc) (λ c. cc) (λ c. cc) (λ c. cc)
-    (λ c. cc) returns-12)
+    (tie.spec (λ c κs. search needs) (λ c. rw (c .before .match .keys1, c .address-of .ensures))
+    (λ c. rw (c .match .keys2)) (λ c. rw (c .match .keys3)) (λ c. rw (c .match .keys4)) (λ c. rw (c .match .keys5))
+    (λ c. rw (c .match .keys6)) (λ c. rw (c .match .keys7)) (λ c. rw (c .match .keys8)) (λ c. rw (c .match .keys9))
+    (λ c. rw (c .match .keys10)) (λ c. rw (c .match .keys11)) returns-12)
