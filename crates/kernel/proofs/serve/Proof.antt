@@ -7,28 +7,28 @@ use Rattle.kernel.proofs.serve.Tie as tie
 
 returns : tie.Need-returns
 returns c =
-    let start : tie.Start = (search) in
-    asked _ (start .args .request) (Read _) (c .access .ensures) (cc)
+    let naming : tie.After-request = (search) in
+    asked _ _ (Read _) (c .access .ensures) (naming .request .given .1)
 
 returns-2 : tie.Need-returns-2
 returns-2 c =
-    let start : tie.Start = (search) in
-    asked _ (start .args .request) (Write _) (c .access2 .ensures) (cc)
+    let naming : tie.After-request2 = (search) in
+    asked _ _ (Write _) (c .access2 .ensures) (naming .request2 .given .1)
 
 returns-3 : tie.Need-returns-3
 returns-3 c =
-    let start : tie.Start = (search) in
-    asked _ (start .args .request) (GrantRight _ _ _) (c .grant .ensures) (cc)
+    let naming : tie.After-request3 = (search) in
+    asked _ _ (GrantRight _ _ _) (c .grant .ensures) (naming .request3 .given .1)
 
 returns-4 : tie.Need-returns-4
 returns-4 c =
-    let start : tie.Start = (search) in
-    asked _ (start .args .request) (RevokeRight _ _ _) (c .revoke .ensures) (cc)
+    let naming : tie.After-request4 = (search) in
+    asked _ _ (RevokeRight _ _ _) (c .revoke .ensures) (naming .request4 .given .1)
 
 returns-5 : tie.Need-returns-5
 returns-5 c =
-    let start : tie.Start = (search) in
-    asked _ (start .args .request) (ReplaceMask _) (c .set-mask .ensures) (cc)
+    let naming : tie.After-request5 = (search) in
+    asked _ _ (ReplaceMask _) (c .set-mask .ensures) (naming .request5 .given .1)
 
 pub serve-spec : {M : Type 1} → statement M
 serve-spec =

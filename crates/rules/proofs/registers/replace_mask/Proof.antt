@@ -4,7 +4,12 @@ use Rattle.rules.specs.Registers.{maskedOf}
 use Rattle.rules.proofs.registers.replace_mask.Statement.{statement}
 use Rattle.rules.proofs.registers.replace_mask.Tie as tie
 
-pub replace-mask-spec : {M : Type 1} → statement M
+returns : tie.Need-returns
 unfolding maskedOf
-replace-mask-spec =
-    tie.close (tie.spec (search needs) (search needs) (search needs) (search needs) (λ c. cc))
+returns c =
+    let asking : tie.After-privileged = (search) in
+    let numbering : tie.After-mask-number = (search) in
+    rw (c .or-where .ensures, c .before .with-mask .ensures, numbering .mask-number .ensures, asking .privileged .ensures)
+
+pub replace-mask-spec : {M : Type 1} → statement M
+replace-mask-spec = tie.close (tie.spec (search needs) (search needs) (search needs) (search needs) returns)
