@@ -35,9 +35,9 @@ def refused(log, name):
     if re.search(rf'^fn \S*::{name}: no proof: .*does not close', log, re.M):
         return True
     if re.search(rf'^fn \S*::{name}: ', log, re.M):
-        # Any answer to a need counts, also one that stands in the line that puts the answers together, where a search finds none or an
-        # equation is missing.
-        where = rf'/{name}/Proof\.antt:\d+:\d+: error: `(?!\S*-spec`: (?!`search`: no proof of|list the missing equation))\S+`'
+        # Any answer to a need counts, also one that stands in the line that puts the answers together, where a search finds none, an
+        # equation is missing or a rewriting leaves something to show.
+        where = rf'/{name}/Proof\.antt:\d+:\d+: error: `(?!\S*-spec`: (?!`search`: no proof of|list the missing equation|give a proof of that))\S+`'
     else:
         where = rf'/[A-Z]\w*\.antt:\d+:\d+: error: `{name}`'
     errors = re.findall(rf'{where}: (.*)', log)

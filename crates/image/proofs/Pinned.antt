@@ -57,6 +57,13 @@ resting pages exponent fields live programs table =
       table = table;
     }
 
+-- where no program is described, nothing is made live
+pub no-program-live :
+    machineOf (record { pages = 1; exponent = 5; fields = 3 ∷ 4 ∷ []; programs = [] })
+    ≡ resting 1 5 (3 ∷ 4 ∷ replicate 254 0) (registers 0 0 User false) 0 (replicate 8 (stored 0 0 User))
+unfolding machineOf
+no-program-live = refl
+
 -- "every number is zero, every mode user and the flag clear": after each of the six refusals
 abbrev nothing : Machine
 nothing = resting 0 0 (replicate 256 0) (registers 0 0 User false) 0 (replicate 8 (stored 0 0 User))

@@ -265,9 +265,10 @@ pub unchecked-order :
 unfolding uncheckedOf checksOf accessChecks changeChecks prevailing domainBit trailingZeros
 unchecked-order = (refl, refl, refl, refl, refl, refl, refl, refl)
 
--- past its eight places the stack gives user and past its eight entries the table gives an empty one, and nothing is stored there
+-- past its places, also where it has none, the stack gives user, past its entries the table gives an empty one, and nothing is stored there
 pub unchecked-outcomes :
     let empty = loose 9 2 0 User false in
+    let bare = withStack 1 [] (loose 1 2 0 Privileged false) in
     let deep = loose 9 2 0 Privileged false in
     let many = loose 1 9 8 Privileged false in
     Outcomes uncheckedOf
@@ -280,6 +281,12 @@ pub unchecked-outcomes :
       Switch 8,
       0,
       whole 3 8 (1 ∷ 2 ∷ []) (live 0 0 Privileged false) 1 (false ∷ replicate 7 true) 9 8 (replicate 8 (stored 1 2 Privileged)),
+    )
+    ∷ (
+      bare,
+      Switch 1,
+      0,
+      whole 3 8 (1 ∷ 2 ∷ []) (live 1 2 Privileged false) 1 [] 2 1 (stored 0x0101 0xFF01 User ∷ replicate 7 (stored 1 2 Privileged)),
     )
     ∷ (many, StoreContext 5, 0, withRegisters (live 5 0xFF01 Privileged false) many)
     ∷ [])

@@ -1,9 +1,9 @@
 // The eleven calls (RULES, sections 2 and 3). Beside each public method stands the call without the check for 1 (RULES 2.8), for a
 // caller that knows its machine to be sound: by value (`.._unchecked`), or on a part of the machine that the caller keeps beside it and
 // lends (`.._lent`), so that a loop over calls need not carry fields and stack in its machine. The public method is that call behind one test
-// for soundness, written out in each: a helper that hands the machine on costs copies of it (docs/PERFORMANCE.md). In the calls themselves
-// an array is indexed only in a local or lent, the number comes first, what an accepted call changes is chosen by it, and the answer is made
-// once at the end.
+// for soundness, written out in each: a helper that hands the machine on costs copies of it (docs/PERFORMANCE.md). The switch alone hands its
+// test on. In the calls themselves an array is indexed only in a local or lent, the number comes first, what an accepted call changes is
+// chosen by it, and the answer is made once at the end.
 use crate::record::Answered;
 use crate::record::Domain;
 use crate::record::Machine;
