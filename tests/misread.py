@@ -11,8 +11,8 @@ A list has entries with an empty line between them:
 `file`, `old` and `new` may follow again, where one misreading needs more than one change.
 
 Only laws may refuse. So the crates are copied without their functions and without the proofs of these: types, definitions and law files
-stay. For a misreading the copy has the crates up to that of the named law, and of the law files only the one with the law and those that it
-uses, so that the prover takes a second. A law refuses where the prover reports an error inside it that says that a fact fails; that something
+stay. For a misreading the copy has the crates up to that of the named law, the law files that the law's own file uses, and of that file the law
+alone with what it rests on there, so that the prover takes a second; as it stands, that copy must be accepted. A law refuses where the prover reports an error inside it that says that a fact fails; that something
 which it uses failed is not enough, and a misreading that is no definition any more does not count. Before the lists are read, each law file
 must be shown to be looked at: a false declaration put into all of them has to be reported once for each. The last line says how many
 misreadings the named laws refuse; the exit status is 0 where that is all of them.
@@ -42,6 +42,7 @@ FACT = (
     '≟',
 )
 ERROR = re.compile(r'/crates/(\w+)/(specs|proofs)/(\S+?)\.antt:\d+:\d+: error: (?:`([^`]+)`: )?(.*)$', re.M)
+DECLARED = re.compile(r' *(?:(?:pub|abbrev|unfoldable|data|record) )*([^\s(){}]+)(?: :(?: |$)| \(.*\) : Type)')
 CANARY = '\n\nnever-shown : (A : Type 0) → A\nnever-shown A = nothing-that-is-there\n'
 
 
@@ -93,6 +94,33 @@ def laws(files):
     return {name: file for name, file in found.items() if file}
 
 
+def part(text, law):
+    """The part of a law file that one law needs: its declaration, those of the file that it rests on, and what these use from elsewhere."""
+    uses, blocks = [], []
+    for paragraph in text.split('\n\n'):
+        lines = [line for line in paragraph.split('\n') if line and not line.lstrip().startswith('--')]
+        if lines and lines[0].startswith('use '):
+            uses += lines
+        elif lines and lines[0].startswith(' '):  # more of a module
+            blocks[-1] += '\n\n' + '\n'.join(lines)
+        elif lines:
+            blocks.append('\n'.join(lines))
+    declared = [{found.group(1) for line in block.split('\n') if (found := DECLARED.match(line))} for block in blocks]
+    words = [set(re.split(r'[\s(){}.,;]+', block)) for block in blocks]
+    needed, kept = {law}, set()
+    while more := {at for at, names in enumerate(declared) if at not in kept and names & needed}:
+        kept |= more
+        needed.update(*(words[at] for at in more))
+    left = []
+    for line in uses:
+        module, _, names = line.rstrip('}').partition('.{')
+        # A name with marks for its arguments is also used where what stands between the marks is.
+        names = [name for name in names.split(', ') if name in needed or all(piece in needed for piece in name.split('_') if piece)]
+        if names:
+            left.append(f"{module}.{{{', '.join(names)}}}")
+    return '\n\n'.join(['\n'.join(left), *(blocks[at] for at in sorted(kept))]) + '\n'
+
+
 def copy_without_code(crates, files, into):
     """The types and definitions of crates, and some law files."""
     for crate in crates:
@@ -111,16 +139,16 @@ def copy_without_code(crates, files, into):
 class Prover:
     """The prover, with a folder for copies and a memory of its own of what was checked before."""
 
-    def __init__(self, room, crates):
-        self.room, self.crates, self.trees = room, crates, {}
+    def __init__(self, room, crates, homes):
+        self.room, self.crates, self.homes, self.trees = room, crates, homes, {}
         (room / 'memory').mkdir(parents=True)
         program = shutil.which('rt')
         if not program:
             sys.exit('rt is missing: install the Rattle toolchain')
         kit = pathlib.Path(program).resolve().parent.parent
         own = kit / 'on' / platform.machine()
-        self.command = [own / 'bin/rattle', 'check', '--extern', f'std={own}/rlib/std.rlib', '-L', f'dependency={own}/rlib']
-        self.command += ['--antt-project', kit / 'logic/antt-project.json', '--logic-built', own / 'logic-built']
+        # The kit's library std is left out: types and laws need nothing of it, and to load it takes longer than the check.
+        self.command = [own / 'bin/rattle', 'check', '--antt-project', kit / 'logic/antt-project.json', '--logic-built', own / 'logic-built']
         self.command += ['--incremental', room / 'memory']
 
     def check(self, tree, top):
@@ -132,13 +160,16 @@ class Prover:
         done = subprocess.run([str(word) for word in words], stdout=subprocess.PIPE, stderr=subprocess.STDOUT, timeout=900)
         return done.returncode, done.stdout.decode('utf-8', 'replace')
 
-    def tree(self, files, top):
-        """A copy with the crates up to one and some law files, which the prover accepts as it stands."""
-        key = (top, *sorted(files))
+    def tree(self, files, top, law=''):
+        """A copy with the crates up to one and some law files, of that of a law only its part; the prover accepts it as it stands."""
+        key = (top, law, *sorted(files))
         if key not in self.trees:
             tree = self.room / str(len(self.trees))
             names = list(self.crates)
             copy_without_code(names[: names.index(top) + 1], files, tree)
+            if law:
+                own = tree / self.homes[law].relative_to(ROOT)
+                own.write_text(part(own.read_text(encoding='utf-8'), law), encoding='utf-8')
             status, report = self.check(tree, top)
             if status != 0:
                 raise RuntimeError(f'the definitions and laws are not accepted as they stand: {report[-3000:]}')
@@ -155,9 +186,10 @@ class Prover:
         report = self.check(tree, top)[1]
         return [file for file, copy in copies.items() if not re.search(re.escape(str(copy)) + r':\d+:\d+: error: `never-shown`', report)]
 
-    def misread(self, changes, files, top):
+    def misread(self, changes, files, law):
         """What does not fit, and the laws of these files that refuse the changes."""
-        tree = self.tree(files, top)
+        top = self.homes[law].parent.parent.name
+        tree = self.tree(files, top, law)
         before = {}
         try:
             for file, old, new in changes:
@@ -208,15 +240,15 @@ def entries(path):
             yield where, ' '.join(what), law, changes
 
 
-def judge(prover, uses, homes, entry):
+def judge(prover, uses, entry):
     """Nothing where the law refuses the misreading, else what is the matter."""
     where, what, law, changes = entry
     if not what or not law or not changes:
         return f'{where}: an entry says what is misread, which law refuses it, and where'
-    if law not in homes:
+    if law not in prover.homes:
         return f'{where}: {what}: there is no law {law}, or more than one'
-    file = homes[law]
-    unfit, refused = prover.misread(changes, {file} | uses[file], file.parent.parent.name)
+    file = prover.homes[law]
+    unfit, refused = prover.misread(changes, {file} | uses[file], law)
     if unfit:
         return f'{where}: {what}: {unfit}'
     if law not in refused:
@@ -232,32 +264,36 @@ def main():
     homes = laws(uses)
     room = pathlib.Path(tempfile.mkdtemp())
     try:
-        provers = [Prover(room / str(number), crates) for number in range(WORKERS)]
+        provers = [Prover(room / str(number), crates, homes) for number in range(WORKERS)]
         unseen = provers[0].canary(set(uses))
         for file in unseen:
             print(f'{file.relative_to(ROOT)} is not looked at')
         print(f'{len(uses)} law files, {len(unseen)} of them not looked at')
         if unseen:
             return 1
-        waiting, faults = queue.Queue(), []
+        waiting, faults, by_law = queue.Queue(), [], {}
         for path in lists:
             for entry in entries(path):
-                waiting.put(entry)
-        total = waiting.qsize()
+                by_law.setdefault(entry[2], []).append(entry)
+        # All of a law go to one prover, which then copies its part once; the longest wait first.
+        for group in sorted(by_law.values(), key=len, reverse=True):
+            waiting.put(group)
+        total = sum(map(len, by_law.values()))
 
         def work(prover):
             while True:
                 try:
-                    entry = waiting.get_nowait()
+                    group = waiting.get_nowait()
                 except queue.Empty:
                     return
-                try:
-                    fault = judge(prover, uses, homes, entry)
-                except Exception as broken:  # a prover that dies or hangs refuses nothing
-                    fault = f'{entry[0]}: {broken}'
-                if fault:
-                    faults.append(fault)
-                    print(fault, flush=True)
+                for entry in group:
+                    try:
+                        fault = judge(prover, uses, entry)
+                    except Exception as broken:  # a prover that dies or hangs refuses nothing
+                        fault = f'{entry[0]}: {broken}'
+                    if fault:
+                        faults.append(fault)
+                        print(fault, flush=True)
 
         threads = [threading.Thread(target=work, args=(prover,)) for prover in provers]
         for thread in threads:
