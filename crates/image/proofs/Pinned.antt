@@ -18,6 +18,7 @@ use Rattle.machine.specs.declared.record.Program.{Program}
 use Rattle.machine.specs.declared.record.Answered.{Answered}
 use Rattle.machine.specs.declared.record.Call.{Call}
 use Rattle.machine.specs.declared.record.Call.the-variants.{Access, Grant, Revoke, SetMask, Return}
+use Rattle.machine.proofs.Written.{stored, live, whole}
 use Rattle.image.specs.Bytes.{byteAt, wordOf, wordAt, word, entries, bodies}
 use Rattle.image.specs.Description.{bytesOf, machineOf, pad}
 use Rattle.image.specs.Load.{describe, loadChecks, loadOf, lengthTests, kindTests, shapeEntryTests, shapeTests, bodyTests}
@@ -36,37 +37,20 @@ pub bytes-read :
     × (pad {A = ℕ} 2 9 (1 ∷ 2 ∷ 3 ∷ []) ≡ 1 ∷ 2 ∷ [])
 bytes-read = (refl, refl, refl, refl, refl, refl, refl, refl)
 
-abbrev stored : ℕ → ℕ → Mode → Program
-stored context mask mode = record { context = context; mask = mask; mode = mode }
-
-abbrev registers : ℕ → ℕ → Mode → Bool → Registers
-registers context mask mode pending = record { context = context; mask = mask; mode = mode; pending = pending }
-
 -- a machine at depth 0, with user in its eight stack places
 abbrev resting : ℕ → ℕ → List ℕ → Registers → ℕ → List Program → Machine
-resting pages exponent fields live programs table =
-    record {
-      pages = pages;
-      exponent = exponent;
-      fields = fields;
-      registers = live;
-      depth = 0;
-      saved = replicate 8 false;
-      programs = programs;
-      current = 0;
-      table = table;
-    }
+resting pages exponent fields registers programs table = whole pages exponent fields registers 0 (replicate 8 false) programs 0 table
 
 -- where no program is described, nothing is made live
 pub no-program-live :
     machineOf (record { pages = 1; exponent = 5; fields = 3 ∷ 4 ∷ []; programs = [] })
-    ≡ resting 1 5 (3 ∷ 4 ∷ replicate 254 0) (registers 0 0 User false) 0 (replicate 8 (stored 0 0 User))
+    ≡ resting 1 5 (3 ∷ 4 ∷ replicate 254 0) (live 0 0 User false) 0 (replicate 8 (stored 0 0 User))
 unfolding machineOf
 no-program-live = refl
 
 -- "every number is zero, every mode user and the flag clear": after each of the six refusals
 abbrev nothing : Machine
-nothing = resting 0 0 (replicate 256 0) (registers 0 0 User false) 0 (replicate 8 (stored 0 0 User))
+nothing = resting 0 0 (replicate 256 0) (live 0 0 User false) 0 (replicate 8 (stored 0 0 User))
 
 pub refused-written :
     map loadOf
@@ -130,7 +114,7 @@ pub long-image :
     × (loadOf long-bytes
     ≡ record {
       number = 0;
-      machine = resting 64 10 (long-fields ++ replicate 128 0) (registers 0x0102 0x0304 Privileged false) 8 long-table;
+      machine = resting 64 10 (long-fields ++ replicate 128 0) (live 0x0102 0x0304 Privileged false) 8 long-table;
     })
     × (bytesOf (record { pages = 64; exponent = 10; fields = long-fields; programs = long-table }) ≡ long-bytes)
 unfolding loadOf loadChecks lengthTests kindTests shapeEntryTests shapeTests bodyTests describe machineOf bytesOf
@@ -153,13 +137,13 @@ pub ends-load :
     × (loadOf longest
     ≡ record {
       number = 0;
-      machine = resting 128 9 (replicate 256 0x8080) (registers 0x0101 0x0101 Privileged false) 8 (replicate 8 (stored 0x0101 0x0101 Privileged));
+      machine = resting 128 9 (replicate 256 0x8080) (live 0x0101 0x0101 Privileged false) 8 (replicate 8 (stored 0x0101 0x0101 Privileged));
     })
     × (loadOf shortest
     ≡ record {
       number = 0;
       machine =
-          resting 1 5 (0x8001 ∷ 0x4002 ∷ replicate 254 0) (registers 0x2003 0x1004 User false) 1
+          resting 1 5 (0x8001 ∷ 0x4002 ∷ replicate 254 0) (live 0x2003 0x1004 User false) 1
           (stored 0x2003 0x1004 User ∷ replicate 7 (stored 0 0 User));
     })
 unfolding loadOf loadChecks lengthTests kindTests shapeEntryTests shapeTests bodyTests describe machineOf
@@ -192,7 +176,7 @@ ends-refused = refl
 
 abbrev of-sample : (read₀ mask : ℕ) → Bool → Machine
 of-sample read₀ mask pending =
-    resting 3 8 (read₀ ∷ 0 ∷ 10 ∷ 2 ∷ 12 ∷ 4 ∷ replicate 250 0) (registers 7 mask User pending) 2
+    resting 3 8 (read₀ ∷ 0 ∷ 10 ∷ 2 ∷ 12 ∷ 4 ∷ replicate 250 0) (live 7 mask User pending) 2
     (stored 7 3 User ∷ stored 8 65535 User ∷ replicate 6 (stored 0 0 User))
 
 abbrev page : ℕ → ℕ → (right : ℕ) → Call

@@ -23,26 +23,15 @@ use Rattle.image.proofs.Sample.{sample-loads}
 use Rattle.machine.specs.declared.record.Answered.{Answered}
 use Rattle.isolation.specs.Histories.{Command, access, grant, revoke, setMask, History}
 use Rattle.isolation.specs.Isolation.{Apart, Isolated, Observation, contextOf, observed, observedFrom, ownTurns, rightsOf}
+use Rattle.machine.proofs.Written.{stored, live, whole}
 use Rattle.isolation.proofs.Isolation.{isolation}
 use Rattle.isolation.proofs.Settled.{Started}
 
 -- the machine that the sample image loads to, with any count of programs and any mode stored for program 0
 abbrev pub node : ℕ → Mode → Machine
 node programs mode =
-    record {
-      pages = 3;
-      exponent = 8;
-      fields = (0x0009 ∷ 0x0000 ∷ 0x000A ∷ 0x0002 ∷ 0x000C ∷ 0x0004 ∷ []) ++ replicate 250 0;
-      registers = record { context = 0x0007; mask = 0x0003; mode = mode; pending = false };
-      depth = 0;
-      saved = replicate 8 false;
-      programs = programs;
-      current = 0;
-      table =
-          record { context = 0x0007; mask = 0x0003; mode = mode }
-          ∷ record { context = 0x0008; mask = 0xFFFF; mode = User }
-          ∷ replicate 6 noProgram;
-    }
+    whole 3 8 ((0x0009 ∷ 0x0000 ∷ 0x000A ∷ 0x0002 ∷ 0x000C ∷ 0x0004 ∷ []) ++ replicate 250 0) (live 0x0007 0x0003 mode false) 0 (replicate 8 false)
+    programs 0 (stored 0x0007 0x0003 mode ∷ stored 0x0008 0xFFFF User ∷ replicate 6 noProgram)
 
 abbrev pub sample : Machine
 sample = node 2 User
@@ -181,20 +170,8 @@ not-isolated-one isolated =
 -- one page, held by domains 0 and 1 for READ and by 15 for WRITE; program 0 holds domains 1 and 15, and program 1 domains 0 and 15
 abbrev sharing : Machine
 sharing =
-    record {
-      pages = 1;
-      exponent = 8;
-      fields = (0x0003 ∷ 0x8000 ∷ []) ++ replicate 254 0;
-      registers = record { context = 0x8002; mask = 0xFFFF; mode = User; pending = false };
-      depth = 0;
-      saved = replicate 8 false;
-      programs = 2;
-      current = 0;
-      table =
-          record { context = 0x8002; mask = 0xFFFF; mode = User }
-          ∷ record { context = 0x8001; mask = 0xFFFF; mode = User }
-          ∷ replicate 6 noProgram;
-    }
+    whole 1 8 ((0x0003 ∷ 0x8000 ∷ []) ++ replicate 254 0) (live 0x8002 0xFFFF User false) 0 (replicate 8 false) 2 0
+    (stored 0x8002 0xFFFF User ∷ stored 0x8001 0xFFFF User ∷ replicate 6 noProgram)
 
 none-lower : (context lower : ℕ) → 16 ≤ lower → holds context lower ≡ false
 none-lower context lower past = rw (no-domain-bit lower past, and-zero-r context)

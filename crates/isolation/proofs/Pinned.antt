@@ -16,12 +16,13 @@ use Rattle.machine.specs.declared.record.Machine.{Machine}
 use Rattle.machine.specs.declared.record.Program.{Program}
 use Rattle.machine.specs.declared.record.Call.{Call}
 use Rattle.machine.specs.declared.record.Call.the-variants.{Access, Enter, Grant, Return, Revoke, SetMask, Switch}
+use Rattle.machine.proofs.Written.{stored, live, whole}
 use Rattle.image.specs.Load.{loadOf}
 use Rattle.isolation.specs.Histories.{Command, access, grant, revoke, setMask, History, Made, Turn, TurnCalls, callsOf, turnsOf}
 use Rattle.isolation.specs.Isolation.{Apart, InTable, Isolated, Observation, ThirdDemand, contextOf, observed, observedFrom, ownTurns, rightsOf, takenOut}
 
 abbrev unused : Program
-unused = record { context = 0; mask = 0; mode = User }
+unused = stored 0 0 User
 
 -- "The premise: ..", and the claim, for a machine
 abbrev Premise : Machine → ℕ → Type 0
@@ -52,21 +53,8 @@ term-spelled = refl
 
 abbrev small : Machine
 small =
-    record {
-      pages = 2;
-      exponent = 8;
-      fields = 0x0301 ∷ 0 ∷ 0 ∷ 0x0600 ∷ replicate 252 0;
-      registers = record { context = 0x0001; mask = 0xFFFF; mode = User; pending = false };
-      depth = 0;
-      saved = replicate 8 false;
-      programs = 3;
-      current = 0;
-      table =
-          record { context = 0x0001; mask = 0xFFFF; mode = User }
-          ∷ record { context = 0x0200; mask = 0x0F00; mode = User }
-          ∷ record { context = 0x0700; mask = 0xFFFF; mode = User }
-          ∷ replicate 5 (record { context = 0; mask = 0; mode = User });
-    }
+    whole 2 8 (0x0301 ∷ 0 ∷ 0 ∷ 0x0600 ∷ replicate 252 0) (live 0x0001 0xFFFF User false) 0 (replicate 8 false) 3 0
+    (stored 0x0001 0xFFFF User ∷ stored 0x0200 0x0F00 User ∷ stored 0x0700 0xFFFF User ∷ replicate 5 unused)
 
 abbrev by : ℕ → List Command → Turn
 by program commands = record { program = program; commands = commands }

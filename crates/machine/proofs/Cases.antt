@@ -18,21 +18,11 @@ use Rattle.machine.specs.declared.record.Machine.{Machine}
 use Rattle.machine.specs.declared.record.Program.{Program}
 use Rattle.machine.specs.declared.record.Call.{Call}
 use Rattle.machine.specs.declared.record.Call.the-variants.{Access, Grant, Revoke, SetMask, Enter, Return, Switch, StoreField, StoreContext, StoreMask, StoreMode}
+use Rattle.machine.proofs.Written.{stored, live, whole, Answers, both}
 
 -- three pages and two programs
 abbrev paged : ℕ → List ℕ → Registers → ℕ → List Bool → ℕ → List Program → Machine
-paged exponent fields registers depth saved current table =
-    record {
-      pages = 3;
-      exponent = exponent;
-      fields = fields;
-      registers = registers;
-      depth = depth;
-      saved = saved;
-      programs = 2;
-      current = current;
-      table = table;
-    }
+paged exponent fields registers depth saved current table = whole 3 exponent fields registers depth saved 2 current table
 
 -- pages of 256 bytes
 abbrev written : List ℕ → Registers → ℕ → List Bool → ℕ → List Program → Machine
@@ -46,15 +36,9 @@ fieldsOf r₀ w₀ r₁ w₁ r₂ w₂ = r₀ ∷ w₀ ∷ r₁ ∷ w₁ ∷ r�
 abbrev figure : List ℕ
 figure = fieldsOf 9 0 10 2 12 4
 
-abbrev live : ℕ → ℕ → Mode → Bool → Registers
-live context mask mode pending = record { context = context; mask = mask; mode = mode; pending = pending }
-
 -- the first two places of the stack, and user past them
 abbrev stack : Mode → Mode → List Bool
 stack one two = isPrivileged one ∷ isPrivileged two ∷ replicate 6 false
-
-abbrev stored : ℕ → ℕ → Mode → Program
-stored context mask mode = record { context = context; mask = mask; mode = mode }
 
 abbrev table : Program → Program → List Program
 table one two = one ∷ two ∷ replicate 6 noProgram
@@ -67,17 +51,9 @@ saving mode pending depth saved =
 abbrev node : ℕ → Mode → Bool → Machine
 node depth mode pending = saving mode pending depth (stack User User)
 
--- what calls on a machine answer, each by itself
-abbrev Answers : Machine → List (Call × ℕ) → Type 0
-Answers m rows = map (λ row. callOf m (row .0) .number) rows ≡ map (λ row. row .1) rows
-
--- a grant and a revocation, which have one list of conditions
-abbrev both : ℕ → ℕ → ℕ → ℕ → List (Call × ℕ) → List (Call × ℕ)
-both right p s number rest = (Grant right (asPage p) (asDomain s), number) ∷ (Revoke right (asPage p) (asDomain s), number) ∷ rest
-
 -- a machine that is not sound: 1 before 2, 6, 13, 7 and 17
 pub not-sound-first :
-    Answers (node 9 User false)
+    Answers callOf (node 9 User false)
     ((Access 2 0, 1)
     ∷ both 2 0 0 1
     ((SetMask 0, 1)
@@ -95,7 +71,7 @@ not-sound-first = refl
 -- user mode, the flag clear, depth 0. Page 0 is held by domains 0 and 3 for READ and by none for WRITE, page 2 by 2 and 3 for READ; the local
 -- context has domains 0 and 1.
 pub user-order :
-    Answers (node 0 User false)
+    Answers callOf (node 0 User false)
     ((Access 2 768, 2)
     ∷ (Access 0 768, 3)
     ∷ (Access 1 767, 9)
@@ -126,7 +102,7 @@ user-order = refl
 
 -- user mode, the flag set: 8 also where the access would be allowed
 pub pending-order :
-    Answers (node 0 User true)
+    Answers callOf (node 0 User true)
     ((Access 2 0, 2)
     ∷ (Access 1 768, 3)
     ∷ (Access 1 0, 8)
@@ -140,7 +116,7 @@ pending-order = refl
 
 -- privileged mode at depth 0: an access that no field allows is allowed, with 2 and 3 all the same
 pub privileged-order :
-    Answers (node 0 Privileged false)
+    Answers callOf (node 0 Privileged false)
     ((Access 1 0, 0)
     ∷ (Access 2 0, 2)
     ∷ (Access 1 768, 3)
@@ -164,23 +140,23 @@ privileged-order = refl
 
 -- the ends of the stack: a switch at depth 1 alone, an entry below depth 8 alone
 pub depth-order :
-    (Answers (node 1 Privileged false) ((Switch 2, 16) ∷ (Switch 1, 0) ∷ (Switch 0, 0) ∷ []))
-    × (Answers (node 7 User false) ((Enter, 0) ∷ []))
-    × (Answers (node 8 Privileged false) ((Enter, 13) ∷ (Switch 1, 15) ∷ (Return, 0) ∷ []))
+    (Answers callOf (node 1 Privileged false) ((Switch 2, 16) ∷ (Switch 1, 0) ∷ (Switch 0, 0) ∷ []))
+    × (Answers callOf (node 7 User false) ((Enter, 0) ∷ []))
+    × (Answers callOf (node 8 Privileged false) ((Enter, 13) ∷ (Switch 1, 15) ∷ (Return, 0) ∷ []))
 unfolding callOf checksOf isSound
 depth-order = (refl, refl, refl)
 
 -- the prevailing domain is found in the whole field: page 2 is held by domains 2 and 3 for READ, a local context of domain 3 alone
 -- does not let it pass the right on, and one of domain 2 does
 pub whole-field :
-    (Answers (withRegisters (live 12 8 User false) (node 0 User false)) ((Access 0 512, 0) ∷ both 0 2 4 11 []))
-    × (Answers (withRegisters (live 12 4 User false) (node 0 User false)) (both 0 2 4 0 (both 0 2 2 12 (both 0 2 15 0 []))))
+    (Answers callOf (withRegisters (live 12 8 User false) (node 0 User false)) ((Access 0 512, 0) ∷ both 0 2 4 11 []))
+    × (Answers callOf (withRegisters (live 12 4 User false) (node 0 User false)) (both 0 2 4 0 (both 0 2 2 12 (both 0 2 15 0 []))))
 unfolding callOf checksOf accessChecks changeChecks isSound prevailing domainBit trailingZeros
 whole-field = (refl, refl)
 
 -- pages of 32 bytes: the page of an address goes by the page size
 pub small-pages :
-    Answers (paged 5 figure (live 7 3 User false) 0 (stack User User) 0 (table (stored 7 3 User) (stored 8 65535 User)))
+    Answers callOf (paged 5 figure (live 7 3 User false) 0 (stack User User) 0 (table (stored 7 3 User) (stored 8 65535 User)))
     ((Access 0 31, 0) ∷ (Access 0 64, 9) ∷ (Access 0 95, 9) ∷ (Access 0 96, 3) ∷ [])
 unfolding callOf checksOf accessChecks isSound
 small-pages = refl

@@ -7,6 +7,7 @@ pub mod Entitled
 pub mod Told
 pub mod Laws
 pub mod Readings
+pub mod Written
 pub mod Cases
 pub mod View
 pub mod Turn

@@ -20,27 +20,7 @@ use Rattle.machine.specs.declared.record.Page.{Page}
 use Rattle.machine.specs.declared.record.Answered.{Answered}
 use Rattle.machine.specs.declared.record.Call.{Call}
 use Rattle.machine.specs.declared.record.Call.the-variants.{Access, Grant, Revoke, SetMask, Enter, Return, Switch, StoreField, StoreContext, StoreMask, StoreMode}
-
-abbrev stored : ℕ → ℕ → Mode → Program
-stored context mask mode = record { context = context; mask = mask; mode = mode }
-
-abbrev live : ℕ → ℕ → Mode → Bool → Registers
-live context mask mode pending = record { context = context; mask = mask; mode = mode; pending = pending }
-
--- a machine by all its parts
-abbrev whole : ℕ → ℕ → List ℕ → Registers → ℕ → List Bool → ℕ → ℕ → List Program → Machine
-whole pages exponent fields registers depth saved programs current table =
-    record {
-      pages = pages;
-      exponent = exponent;
-      fields = fields;
-      registers = registers;
-      depth = depth;
-      saved = saved;
-      programs = programs;
-      current = current;
-      table = table;
-    }
+use Rattle.machine.proofs.Written.{stored, live, whole, Answers, both}
 
 -- "every number is zero, every mode user and the flag clear": 256 fields, eight places on the stack, eight entries in the table
 pub all-zero :
@@ -77,15 +57,6 @@ pub places :
     × (map (pageOf m) (0 ∷ 511 ∷ 512 ∷ 65535 ∷ 65536 ∷ []) ≡ 0 ∷ 0 ∷ 1 ∷ 127 ∷ 128 ∷ [])
     × (memorySize m ∷ memorySize (whole 3 5 [] (live 0 0 User false) 0 [] 1 0 []) ∷ [] ≡ 65536 ∷ 96 ∷ [])
 places = (refl, refl, refl, refl)
-
--- what calls on a machine answer, each by itself
-abbrev Answers : (Machine → Call → Answered) → Machine → List (Call × ℕ) → Type 0
-Answers made m rows = map (λ row. made m (row .0) .number) rows ≡ map (λ row. row .1) rows
-
--- a grant and a revocation, which have one list of conditions
-abbrev both : ℕ → ℕ → ℕ → ℕ → List (Call × ℕ) → List (Call × ℕ)
-both right p s number rest =
-    (Grant right (record { 0 = p }) (record { 0 = s }), number) ∷ (Revoke right (record { 0 = p }) (record { 0 = s }), number) ∷ rest
 
 pub last-page-order :
     (Answers callOf (wide (last 0x0300 0x8200) (live 0x0300 0xFFFF User false))

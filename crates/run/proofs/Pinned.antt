@@ -18,6 +18,7 @@ use Rattle.machine.specs.Calls.{callOf, uncheckedOf, checksOf, accessChecks, ch
 use Rattle.machine.specs.declared.record.Machine.{Machine}
 use Rattle.machine.specs.declared.record.Answered.{Answered}
 use Rattle.machine.specs.declared.record.Call.the-variants.{Access, Grant, Revoke, SetMask, Enter, Return, Switch, StoreField, StoreContext, StoreMask, StoreMode}
+use Rattle.machine.proofs.Written.{stored, live, whole}
 use Rattle.run.specs.Records.{callOfKind, callsOf, stepBy, stepOf, uncheckedStepOf}
 use Rattle.run.specs.Run.{answersFrom, answersOf, callAnswers, callBytes, imageOf, isLong, sent}
 use Rattle.run.specs.declared.records.Decoded.the-variants.{Known, Unknown}
@@ -58,18 +59,7 @@ records-cut = (refl, refl)
 
 -- one page, held by domain 0 for READ, and one program
 abbrev small : ℕ → ℕ → Mode → Bool → List Bool → Machine
-small depth mask mode pending saved =
-    record {
-      pages = 1;
-      exponent = 5;
-      fields = 1 ∷ 0 ∷ [];
-      registers = record { context = 1; mask = mask; mode = mode; pending = pending };
-      depth = depth;
-      saved = saved;
-      programs = 1;
-      current = 0;
-      table = record { context = 1; mask = 1; mode = User } ∷ [];
-    }
+small depth mask mode pending saved = whole 1 5 (1 ∷ 0 ∷ []) (live 1 mask mode pending) depth saved 1 0 (stored 1 1 User ∷ [])
 
 abbrev answered : ℕ → Machine → Answered
 answered number machine = record { number = number; machine = machine }
