@@ -11,10 +11,10 @@ A list has entries with an empty line between them:
 `file`, `old` and `new` may follow again, where one misreading needs more than one change.
 
 Only laws may refuse. So the crates are copied without their functions and without the proofs of these: types, definitions and law files
-stay. For a misreading the copy has the crates up to that of the named law, the law files that the law's own file uses, and of that file the law
+stay. For a misreading the copy has the crate of the named law, those below it, the law files that the law's own file uses, and of that file the law
 alone with what it rests on there, so that the prover takes a second; as it stands, that copy must be accepted. A law refuses where the prover reports an error inside it that says that a fact fails; that something
 which it uses failed is not enough, and a misreading that is no definition any more does not count. Before the lists are read, each law file
-must be shown to be looked at: a false declaration put into all of them has to be reported once for each. The last line says how many
+must be shown to be looked at: a false declaration put into all of a crate's has to be reported once for each. The last line says how many
 misreadings the named laws refuse; the exit status is 0 where that is all of them.
 """
 import pathlib
@@ -46,14 +46,22 @@ DECLARED = re.compile(r' *(?:(?:pub|abbrev|unfoldable|data|record) )*([^\s(){}]+
 CANARY = '\n\nnever-shown : (A : Type 0) → A\nnever-shown A = nothing-that-is-there\n'
 
 
-def library_crates():
-    """The crates that have definitions for others, in order, with those that each uses."""
+def crates_with_definitions():
+    """The crates that have definitions, in order, with those that each uses."""
     found = {}
     for line in (ROOT / 'crates.txt').read_text(encoding='utf-8').splitlines():
         name, colon, uses = line.partition('#')[0].partition(':')
-        if colon and (ROOT / 'crates' / name.strip() / 'src/lib.rt').exists():
+        if colon and (ROOT / 'crates' / name.strip() / 'specs').exists():
             found[name.strip()] = [use for use in uses.split() if use in found]
     return found
+
+
+def below(crates, top):
+    """The crates that one uses, directly or not, in order."""
+    used = {top}
+    for crate in reversed(list(crates)):
+        used.update(crates[crate] if crate in used else ())
+    return [crate for crate in crates if crate in used and crate != top]
 
 
 def declarations(text):
@@ -128,7 +136,8 @@ def copy_without_code(crates, files, into):
         own = [file for file in files if file.parent.parent == home]
         for source in [*home.glob('src/**/*.rt'), *home.glob('specs/**/*.antt'), *own]:
             text = source.read_text(encoding='utf-8')
-            target = into / source.relative_to(ROOT)
+            # Without its functions a program is a library.
+            target = into / (source.with_name('lib.rt') if source.name == 'main.rt' else source).relative_to(ROOT)
             target.parent.mkdir(parents=True, exist_ok=True)
             target.write_text(declarations(text) if source.suffix == '.rt' else text, encoding='utf-8')
         if own:
@@ -153,20 +162,18 @@ class Prover:
 
     def check(self, tree, top):
         """The exit status and the report of one check of the crates of a copy."""
-        names = list(self.crates)
         words = self.command + ['--crate-name', top, tree / 'crates' / top / 'src/lib.rt']
-        for crate in names[: names.index(top)]:
+        for crate in below(self.crates, top):
             words += ['--lib', f"{crate}:{','.join(self.crates[crate])}={tree}/crates/{crate}/src/lib.rt"]
         done = subprocess.run([str(word) for word in words], stdout=subprocess.PIPE, stderr=subprocess.STDOUT, timeout=900)
         return done.returncode, done.stdout.decode('utf-8', 'replace')
 
     def tree(self, files, top, law=''):
-        """A copy with the crates up to one and some law files, of that of a law only its part; the prover accepts it as it stands."""
+        """A copy of a crate, those below it and some law files, of that of a law only its part; the prover accepts it as it stands."""
         key = (top, law, *sorted(files))
         if key not in self.trees:
             tree = self.room / str(len(self.trees))
-            names = list(self.crates)
-            copy_without_code(names[: names.index(top) + 1], files, tree)
+            copy_without_code([*below(self.crates, top), top], files, tree)
             if law:
                 own = tree / self.homes[law].relative_to(ROOT)
                 own.write_text(part(own.read_text(encoding='utf-8'), law), encoding='utf-8')
@@ -176,11 +183,10 @@ class Prover:
             self.trees[key] = tree
         return self.trees[key]
 
-    def canary(self, files):
-        """The law files that are not looked at."""
-        top = list(self.crates)[-1]
+    def canary(self, files, top):
+        """The law files of a crate that are not looked at, among these, which it uses or has."""
         tree = self.tree(files, top)
-        copies = {file: tree / file.relative_to(ROOT) for file in files}
+        copies = {file: tree / file.relative_to(ROOT) for file in files if file.parent.parent.name == top}
         for copy in copies.values():
             copy.write_text(copy.read_text(encoding='utf-8') + CANARY, encoding='utf-8')
         report = self.check(tree, top)[1]
@@ -259,13 +265,16 @@ def judge(prover, uses, entry):
 
 def main():
     lists = [pathlib.Path(name) for name in sys.argv[1:]] or sorted((HERE / 'misreadings').glob('*.txt'))
-    crates = library_crates()
+    crates = crates_with_definitions()
     uses = law_files(crates)
     homes = laws(uses)
     room = pathlib.Path(tempfile.mkdtemp())
     try:
         provers = [Prover(room / str(number), crates, homes) for number in range(WORKERS)]
-        unseen = provers[0].canary(set(uses))
+        unseen = []
+        for crate in crates:
+            own = {file for file in uses if file.parent.parent.name == crate}
+            unseen += provers[0].canary(own.union(*(uses[file] for file in own)), crate)
         for file in unseen:
             print(f'{file.relative_to(ROOT)} is not looked at')
         print(f'{len(uses)} law files, {len(unseen)} of them not looked at')

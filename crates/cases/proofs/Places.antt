@@ -1,6 +1,7 @@
 -- Where cases stand: each ends past its start, and the next one stands past it and within the bytes. By cases of whether the bytes hold it.
+-- And some that are written out.
 use Prim.Native.Nat.{ℕ, _+_, _≤_, _<_}
-use mathlib.Core.List.{List}
+use mathlib.Core.List.{List, [], _∷_}
 use mathlib.Core.Path.{_≡_, refl}
 use mathlib.Core.Bool.{Bool, true, false}
 use borrow.Author.Tests.{leb-true}
@@ -21,3 +22,13 @@ next-past bytes at before = split (leb (endOf bytes at) (length bytes)) refl
     split : (b : Bool) → leb (endOf bytes at) (length bytes) ≡ b → (at < pick b (endOf bytes at) (length bytes)) × (pick b (endOf bytes at) (length bytes) ≤ length bytes)
     split true holds = (omega (arith, end-past bytes at), leb-true _ _ holds)
     split false cuts = (before, omega arith)
+
+-- a length of four bytes, high byte first, at a place; a case that the bytes hold, one that they end with and one that they cut
+pub cases-stand :
+    (endOf (9 ∷ 0 ∷ 1 ∷ 0 ∷ 2 ∷ []) 1 ≡ 65543)
+    × (endOf (1 ∷ 2 ∷ 3 ∷ 4 ∷ []) 0 ≡ 16909064)
+    × (nextOf (0 ∷ 0 ∷ 0 ∷ 2 ∷ 7 ∷ 8 ∷ 9 ∷ []) 0 ≡ 6)
+    × (nextOf (0 ∷ 0 ∷ 0 ∷ 2 ∷ 7 ∷ 8 ∷ []) 0 ≡ 6)
+    × (nextOf (0 ∷ 0 ∷ 0 ∷ 2 ∷ 7 ∷ []) 0 ≡ 5)
+unfolding endOf nextOf
+cases-stand = (refl, refl, refl, refl, refl)

@@ -1,0 +1,51 @@
+-- What the definitions of this crate come to on a written node of one page and two programs: all is computed and written out.
+use mathlib.Core.Path.{_≡_, refl}
+use mathlib.Core.Bool.{Bool, true, false}
+use mathlib.Core.List.{[], _∷_, map}
+use Prim.Native.Nat.{ℕ}
+use lib.ListN.{replicate}
+use Rattle.rules.specs.declared.registers.Mode.the-variants.{User}
+use Rattle.machine.specs.Machine.{isSound}
+use Rattle.machine.specs.Calls.{callOf, checksOf, accessChecks, effectOf, entered, returned, switched, after}
+use Rattle.machine.specs.declared.record.Machine.{Machine}
+use Rattle.machine.specs.declared.record.Call.the-variants.{Access, Grant, Revoke, SetMask}
+use Rattle.machine.proofs.Written.{stored, live, whole}
+use Rattle.kernel.specs.Kernel.{callFor, begunOf, servedOf}
+use Rattle.kernel.specs.declared.Request.the-variants.{Read, Write, GrantRight, RevokeRight, ReplaceMask}
+
+-- the call of each request
+pub calls-for :
+    map callFor
+    (Read 7
+    ∷ Write 8
+    ∷ GrantRight 3 (record { 0 = 2 }) (record { 0 = 3 })
+    ∷ RevokeRight 2 (record { 0 = 4 }) (record { 0 = 5 })
+    ∷ ReplaceMask 9
+    ∷ [])
+    ≡ Access 0 7 ∷ Access 1 8 ∷ Grant 3 (record { 0 = 2 }) (record { 0 = 3 }) ∷ Revoke 2 (record { 0 = 4 }) (record { 0 = 5 }) ∷ SetMask 9 ∷ []
+calls-for = refl
+
+-- READ of the page is held by domain 0, WRITE by none; program 0 is current, and what is stored for it is older than what is live
+abbrev node : ℕ → Bool → Machine
+node depth pending = whole 1 5 (1 ∷ 0 ∷ []) (live 1 3 User pending) depth (replicate 8 false) 2 0 (stored 5 6 User ∷ stored 2 7 User ∷ [])
+
+-- a turn that begins, one for a program that is not there, and one on a full stack
+pub turns-begun :
+    (begunOf (node 0 true) 1
+    ≡ record {
+      entry = 0;
+      switch = 0;
+      leave = 0;
+      machine = whole 1 5 (1 ∷ 0 ∷ []) (live 2 7 User false) 0 (replicate 8 false) 2 1 (stored 1 3 User ∷ stored 2 7 User ∷ []);
+    })
+    × (begunOf (node 0 true) 2 ≡ record { entry = 0; switch = 16; leave = 0; machine = node 0 false })
+    × (begunOf (node 8 true) 1 ≡ record { entry = 13; switch = 7; leave = 7; machine = node 8 true })
+unfolding begunOf callOf checksOf effectOf entered returned switched after isSound
+turns-begun = (refl, refl, refl)
+
+-- an access that is allowed, one that is a violation, and one while it is pending
+pub requests-served :
+    (servedOf (node 0 false) (Read 0 ∷ Write 0 ∷ Read 0 ∷ []) ≡ record { refused = 2; machine = node 0 true })
+    × (servedOf (node 0 false) [] ≡ record { refused = 0; machine = node 0 false })
+unfolding servedOf callOf checksOf accessChecks effectOf after isSound
+requests-served = (refl, refl)
