@@ -320,7 +320,7 @@ pub after-numbers :
 unfolding after
 after-numbers = refl
 
--- ---- the numbers that document 01 lists, and no others
+-- ---- the numbers that are listed, and no others
 
 pub numbers-listed :
     (map listed
