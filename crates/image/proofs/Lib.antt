@@ -7,3 +7,4 @@ pub mod Loaded
 pub mod Sample
 pub mod Order
 pub mod Pinned
+pub mod Spelled

@@ -14,3 +14,4 @@ pub mod Turn
 pub mod Lengths
 pub mod MaskCommand
 pub mod Pinned
+pub mod Spelled

@@ -4,3 +4,4 @@ pub mod Sent
 mod Given
 pub mod Examples
 pub mod Pinned
+pub mod Spelled

@@ -1,16 +1,18 @@
 -- What the definitions of this crate come to, written out byte by byte: each word, each remainder, each power of ten, lines past the ninth, and
--- the ends of the buffer. All is computed but the last law, which says what it is to store a text.
-use Prim.Native.Nat.{ℕ}
+-- the ends of the buffer. All is computed but the last two laws, which spell out the text of any input and what it is to store a text.
+use Prim.Native.Nat.{ℕ, _+_, _/_, _%_}
+use lib.Dec.{leb, ltb, eqb}
 use mathlib.Core.Path.{_≡_, refl}
 use mathlib.Core.List.{List, [], _∷_, _++_, map}
-use lib.ListN.{replicate, set}
+use lib.ListN.{length, replicate, set}
 use Rattle.image.specs.Description.{machineOf}
 use Rattle.image.specs.Load.{loadOf, loadChecks, lengthTests, kindTests, shapeEntryTests, shapeTests, bodyTests, describe}
 use Rattle.image.specs.Sample.{sampleBytes}
 use Rattle.machine.specs.Machine.{isSound}
 use Rattle.machine.specs.Calls.{callOf, checksOf, accessChecks, effectOf, entered, returned, after}
 use Rattle.run.specs.Records.{callsOf, callOfKind, stepBy}
-use Rattle.run.specs.Run.{answersFrom, callAnswers}
+use Rattle.rules.specs.Refusals.{pick}
+use Rattle.run.specs.Run.{answersFrom, callAnswers, callBytes, loadedOf}
 use Rattle.text.specs.Text.{letters, decimalOf, lineOf, linesFrom, cutOf, loadLine, runText, textOf, printed}
 use Rattle.text.specs.Put.{Put}
 
@@ -93,6 +95,22 @@ pub buffers :
     map (printed []) (0 ∷ 8 ∷ 99999 ∷ 100000 ∷ 100001 ∷ []) ≡ [] ∷ [] ∷ [] ∷ letters "load 20\n" ∷ letters "load 20\n" ∷ []
 unfolding printed textOf runText loadLine decimalOf loadOf loadChecks lengthTests
 buffers = refl
+
+-- the text of any input, any number in it and any room for it; a line is counted on by one
+pub text-spelled : (input answers : List ℕ) (n i room : ℕ)
+    → let digit : ℕ → List ℕ = λ power. pick (leb power n) ((48 + n / power % 10) ∷ []) [] in
+    let loads = loadedOf input .number in
+    let long = ltb 32768 (length input) in
+    let cut : List ℕ = pick (eqb (length (callBytes input) % 6) 0) [] (99 ∷ 117 ∷ 116 ∷ 10 ∷ []) in
+    (decimalOf n ≡ digit 10000 ++ digit 1000 ++ digit 100 ++ digit 10 ++ ((48 + n % 10) ∷ []))
+    × (linesFrom i (n ∷ answers) ≡ (decimalOf i ++ (32 ∷ []) ++ decimalOf n ++ (10 ∷ [])) ++ linesFrom (i + 1) answers)
+    × (linesFrom i [] ≡ [])
+    × (textOf input
+    ≡ pick long (108 ∷ 111 ∷ 110 ∷ 103 ∷ 10 ∷ [])
+    (((108 ∷ 111 ∷ 97 ∷ 100 ∷ 32 ∷ []) ++ decimalOf loads ++ (10 ∷ [])) ++ pick (eqb loads 0) (linesFrom 1 (callAnswers input) ++ cut) []))
+    × (printed input room ≡ pick (leb 100000 room) (textOf input) [])
+unfolding decimalOf lineOf linesFrom cutOf loadLine runText textOf printed
+text-spelled input answers n i room = (refl, refl, refl, refl, refl)
 
 -- storing two bytes from place 1 on: the four bytes of the buffer after it, and the place past them
 pub put-means : (exit : List ℕ) (past : ℕ) → Put (1 ∷ 2 ∷ 3 ∷ 4 ∷ []) 1 (8 ∷ 9 ∷ []) exit past → (exit ≡ 1 ∷ 8 ∷ 9 ∷ 4 ∷ []) × (past ≡ 3)

@@ -1,0 +1,146 @@
+-- The eleven calls spelled out for any machine, sound or not: the number from its tests, one behind the other, and the machine after an accepted
+-- call by all its parts. The tables of Cases and Pinned try machines that are written out; here none is left out.
+use Prim.Native.Nat.{ℕ, _+_, _-_, _*_, _^_, _/_}
+use mathlib.Core.Path.{_≡_, refl}
+use mathlib.Core.Bool.{Bool, true, false, not, _&&_}
+use mathlib.Core.List.{List, [], _∷_}
+use lib.Bits.{bitAnd}
+use lib.Dec.{leb, ltb, eqb}
+use lib.ListN.{getD, set}
+use Rattle.rules.specs.Domains.{prevailing, isOutside, isNotLower, withBit, withoutBit}
+use Rattle.rules.specs.Refusals.{Check, _⇒_, first, pick}
+use Rattle.rules.specs.declared.registers.Mode.the-variants.{User, Privileged}
+use Rattle.rules.specs.declared.registers.Registers.{Registers}
+use Rattle.rules.specs.Registers.{isPrivileged}
+use Rattle.machine.specs.Calls.{callOf, uncheckedOf, checksOf, accessChecks, changeChecks, effectOf, entered, returned, switched, after}
+use Rattle.machine.specs.Machine.{isSound}
+use Rattle.machine.specs.declared.record.Machine.{Machine}
+use Rattle.machine.specs.declared.record.Program.{Program}
+use Rattle.machine.specs.declared.record.Page.{Page}
+use Rattle.machine.specs.declared.record.Domain.{Domain}
+use Rattle.machine.specs.declared.record.Call.{Call}
+use Rattle.machine.specs.declared.record.Call.the-variants.{Access, Grant, Revoke, SetMask, Enter, Return, Switch, StoreField, StoreContext, StoreMask, StoreMode}
+use Rattle.machine.proofs.Written.{stored, live, whole}
+
+module _ (m : Machine) where
+  abbrev number : Call → ℕ
+  number call = uncheckedOf m call .number
+
+  abbrev privileged : Bool
+  privileged = isPrivileged (m .registers .mode)
+
+  abbrev pending : Bool
+  pending = m .registers .pending
+
+  abbrev local : ℕ
+  local = bitAnd (m .registers .context) (m .registers .mask)
+
+  abbrev field : ℕ → ℕ → ℕ
+  field right page = getD (m .fields) (2 * page + right) 0
+
+  pub sound-spelled :
+      isSound m
+      ≡ (leb 1 (m .pages) && leb (m .pages) 128 && leb 5 (m .exponent) && leb (m .exponent) 12 && leb (m .depth) 8 && leb 1 (m .programs) && leb (m .programs) 8)
+      && leb (m .pages * 2 ^ m .exponent) 65536 && ltb (m .current) (m .programs) && not (pending && privileged)
+  unfolding isSound
+  sound-spelled = refl
+
+  pub access-number-spelled : (right address : ℕ)
+      → number (Access right address)
+      ≡ pick (not (leb right 1)) 2
+      (pick (leb (m .pages * 2 ^ m .exponent) address) 3
+      (pick privileged 0 (pick pending 8 (pick (eqb (bitAnd (field right (address / 2 ^ m .exponent)) local) 0) 9 0))))
+  unfolding uncheckedOf checksOf accessChecks
+  access-number-spelled right address = split privileged
+    where
+      user-only : List Check
+      user-only = (pending ⇒ 8) ∷ (eqb (bitAnd (field right (address / 2 ^ m .exponent)) local) 0 ⇒ 9) ∷ []
+
+      split : (b : Bool)
+          → first ((not (leb right 1) ⇒ 2) ∷ (leb (m .pages * 2 ^ m .exponent) address ⇒ 3) ∷ pick b [] user-only)
+          ≡ pick (not (leb right 1)) 2 (pick (leb (m .pages * 2 ^ m .exponent) address) 3 (pick b 0 (first user-only)))
+      split true = refl
+      split false = refl
+
+  -- grant and revoke alike
+  abbrev change-number : ℕ → ℕ → ℕ → ℕ
+  change-number right page s =
+      pick (not (leb right 1)) 2
+      (pick (not (ltb page (m .pages))) 4
+      (pick (not (ltb s 16)) 5
+      (pick privileged 6
+      (pick pending 8
+      (pick (isOutside (prevailing (field right page)) local) 11 (pick (isNotLower (prevailing (field right page)) s) 12 0))))))
+
+  pub command-numbers-spelled : (right bits : ℕ) (page : Page) (s : Domain)
+      → (number (Grant right page s) ≡ change-number right (page .0) (s .0))
+      × (number (Revoke right page s) ≡ change-number right (page .0) (s .0))
+      × (number (SetMask bits) ≡ pick privileged 6 (pick pending 8 0))
+  unfolding uncheckedOf checksOf changeChecks
+  command-numbers-spelled right bits page s = (refl, refl, refl)
+
+  pub kernel-numbers-spelled : (right program bits mode : ℕ) (page : Page)
+      → (number Enter ≡ pick (not (ltb (m .depth) 8)) 13 0)
+      × (number Return ≡ pick (not privileged) 7 (pick (eqb (m .depth) 0) 14 0))
+      × (number (Switch program)
+      ≡ pick (not privileged) 7
+      (pick (not (ltb (m .current) (m .programs))) 10 (pick (not (eqb (m .depth) 1)) 15 (pick (not (ltb program (m .programs))) 16 0))))
+      × (number (StoreField right page bits)
+      ≡ pick (not (leb right 1)) 2 (pick (not (ltb (page .0) (m .pages))) 4 (pick (not privileged) 7 0)))
+      × (number (StoreContext bits) ≡ pick (not privileged) 7 0)
+      × (number (StoreMask bits) ≡ pick (not privileged) 7 0)
+      × (number (StoreMode mode) ≡ pick (not (leb mode 1)) 17 (pick (not privileged) 7 0))
+  unfolding uncheckedOf checksOf
+  kernel-numbers-spelled right program bits mode page = (refl, refl, refl, refl, refl, refl, refl)
+
+  -- other fields or other registers alone
+  abbrev with-fields : List ℕ → Machine
+  with-fields fields = whole (m .pages) (m .exponent) fields (m .registers) (m .depth) (m .saved) (m .programs) (m .current) (m .table)
+
+  abbrev with-registers : Registers → Machine
+  with-registers r = whole (m .pages) (m .exponent) (m .fields) r (m .depth) (m .saved) (m .programs) (m .current) (m .table)
+
+  pub command-effects-spelled : (right address bits : ℕ) (page : Page) (s : Domain)
+      → let at = 2 * page .0 + right in
+      (effectOf m (Access right address) ≡ m)
+      × (effectOf m (Grant right page s) ≡ with-fields (set (m .fields) at (withBit (getD (m .fields) at 0) (s .0))))
+      × (effectOf m (Revoke right page s) ≡ with-fields (set (m .fields) at (withoutBit (getD (m .fields) at 0) (s .0))))
+      × (effectOf m (SetMask bits) ≡ with-registers (live (m .registers .context) bits (m .registers .mode) pending))
+  unfolding effectOf
+  command-effects-spelled right address bits page s = (refl, refl, refl, refl)
+
+  pub store-effects-spelled : (right bits mode : ℕ) (page : Page)
+      → let r = m .registers in
+      (effectOf m (StoreField right page bits) ≡ with-fields (set (m .fields) (2 * page .0 + right) bits))
+      × (effectOf m (StoreContext bits) ≡ with-registers (live bits (r .mask) (r .mode) pending))
+      × (effectOf m (StoreMask bits) ≡ with-registers (live (r .context) bits (r .mode) pending))
+      × (effectOf m (StoreMode mode) ≡ with-registers (live (r .context) (r .mask) (pick (eqb mode 0) User Privileged) pending))
+  unfolding effectOf
+  store-effects-spelled right bits mode page = (refl, refl, refl, refl)
+
+  pub turn-effects-spelled : (program : ℕ)
+      → let r = m .registers in
+      let top = m .depth - 1 in
+      let table = set (m .table) (m .current) (stored (r .context) (r .mask) (pick (getD (m .saved) 0 false) Privileged User)) in
+      let named = getD table program (stored 0 0 User) in
+      (effectOf m Enter
+      ≡ whole (m .pages) (m .exponent) (m .fields) (live (r .context) (r .mask) Privileged false) (m .depth + 1)
+      (set (m .saved) (m .depth) privileged) (m .programs) (m .current) (m .table))
+      × (effectOf m Return
+      ≡ whole (m .pages) (m .exponent) (m .fields) (live (r .context) (r .mask) (pick (getD (m .saved) top false) Privileged User) pending) top
+      (set (m .saved) top false) (m .programs) (m .current) (m .table))
+      × (effectOf m (Switch program)
+      ≡ whole (m .pages) (m .exponent) (m .fields) (live (named .context) (named .mask) (r .mode) pending) (m .depth)
+      (set (m .saved) 0 (isPrivileged (named .mode))) (m .programs) program table)
+  unfolding effectOf entered returned switched
+  turn-effects-spelled program = (refl, refl, refl)
+
+  -- a number and an effect put together: 9 sets the flag, any other refusal leaves the machine; and the call by value asks for soundness first
+  pub answers-spelled : (call : Call)
+      → let n = number call in
+      let spelled : ℕ → Machine = λ k. pick (eqb k 0) (effectOf m call)
+      (pick (eqb k 9) (with-registers (live (m .registers .context) (m .registers .mask) (m .registers .mode) true)) m) in
+      (uncheckedOf m call ≡ record { number = n; machine = spelled n })
+      × (callOf m call ≡ record { number = pick (not (isSound m)) 1 n; machine = spelled (pick (not (isSound m)) 1 n) })
+  unfolding callOf uncheckedOf after
+  answers-spelled call = (refl, refl)

@@ -1,0 +1,52 @@
+-- Records and runs spelled out for any input: the call of each kind, the answers in a row, and what is sent into any room. The tables of Pinned try
+-- inputs that are written out; here none is left out.
+use Prim.Native.Nat.{ℕ, suc, _+_, _*_}
+use mathlib.Core.Path.{_≡_, refl}
+use mathlib.Core.List.{List, [], _∷_, map}
+use lib.Dec.{leb, ltb, eqb}
+use lib.ListN.{length, take, drop}
+use Rattle.rules.specs.Refusals.{pick}
+use Rattle.image.specs.Bytes.{wordAt}
+use Rattle.image.specs.Load.{loadOf}
+use Rattle.machine.specs.Calls.{callOf, uncheckedOf}
+use Rattle.machine.specs.declared.record.Machine.{Machine}
+use Rattle.machine.specs.declared.record.Call.{Call}
+use Rattle.machine.specs.declared.record.Call.the-variants.{Access, Grant, Revoke, SetMask, Enter, Return, Switch, StoreField, StoreContext, StoreMask, StoreMode}
+use Rattle.run.specs.Records.{callOfKind, callsOf, stepBy, uncheckedStepOf}
+use Rattle.run.specs.Run.{answersFrom, callAnswers, sent}
+use Rattle.run.specs.declared.records.Decoded.{Decoded}
+use Rattle.run.specs.declared.records.Decoded.the-variants.{Known, Unknown}
+
+-- the kinds for any parts, and a kind past the last
+pub kinds-spelled : (right a b more : ℕ)
+    → (map (λ kind. callOfKind kind right a b) (0 ∷ 1 ∷ 2 ∷ 3 ∷ 4 ∷ 5 ∷ 6 ∷ 7 ∷ 8 ∷ 9 ∷ 10 ∷ 11 ∷ [])
+    ≡ Unknown
+    ∷ Known (Access right (65536 * a + b))
+    ∷ Known (Grant right (record { 0 = a }) (record { 0 = b }))
+    ∷ Known (Revoke right (record { 0 = a }) (record { 0 = b }))
+    ∷ Known (SetMask b)
+    ∷ Known Enter
+    ∷ Known Return
+    ∷ Known (Switch b)
+    ∷ Known (StoreField right (record { 0 = a }) b)
+    ∷ Known (StoreContext b)
+    ∷ Known (StoreMask b)
+    ∷ Known (StoreMode b)
+    ∷ [])
+    × (callOfKind (suc (suc (suc (suc (suc (suc (suc (suc (suc (suc (suc (suc more)))))))))))) right a b ≡ Unknown)
+unfolding callOfKind
+kinds-spelled right a b more = (refl, refl)
+
+-- the answers of any input and what is sent of them into any room
+pub run-spelled : (input : List ℕ) (room : ℕ) (m : Machine) (call : Call) (rest : List Decoded)
+    → let start = loadOf (take (wordAt input 0) (drop 2 input)) in
+    let calls = drop (wordAt input 0) (drop 2 input) in
+    let answers : List ℕ = start .number ∷ pick (eqb (start .number) 0) (answersFrom (start .machine) (callsOf calls)) [] in
+    (sent input room ≡ pick (ltb 32768 (length input)) [] (pick (leb (length answers) room) answers []))
+    × (answersFrom m (Known call ∷ rest) ≡ callOf m call .number ∷ answersFrom (callOf m call .machine) rest)
+    × (answersFrom m (Unknown ∷ rest) ≡ 18 ∷ answersFrom m rest)
+    × (answersFrom m [] ≡ [])
+    × (uncheckedStepOf m (Known call) ≡ uncheckedOf m call)
+    × (uncheckedStepOf m Unknown ≡ record { number = 18; machine = m })
+unfolding sent callAnswers answersFrom stepBy
+run-spelled input room m call rest = (refl, refl, refl, refl, refl, refl)
