@@ -103,16 +103,16 @@
 
 /*
  * How much stack a call of bench_run should find free, in bytes. It is more
- * than twice the most that was measured:
+ * than one and a half times the most that was measured:
  *
  * The function itself takes 1,824: the return address, six registers and
  * 1,768 bytes of locals, as its disassembly shows (objdump -d). It calls only
  * memcpy and memset, which puts 8 more there and what these two take. On a
  * stack filled with a pattern a call took 1,832, with glibc 2.36. Where a
  * program is linked so that memcpy and memset are looked up when they are
- * first called, the first call took 3,368 to 3,432: the system's loader then
- * works on the same stack and saves the vector registers there (32 bytes each
- * on that processor; it takes more where they are wider).
+ * first called, the first call took 3,368 to 3,432 on a processor with vector
+ * registers of 32 bytes and 4,968 on one with 64: the system's loader then
+ * works on the same stack and saves these registers there.
  * tests/bench/stack.c measures both calls again.
  */
 #define BENCH_STACK_ENOUGH 8192

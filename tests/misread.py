@@ -258,8 +258,8 @@ def judge(prover, uses, entry):
     if unfit:
         return f'{where}: {what}: {unfit}'
     if law not in refused:
-        others = ', '.join(sorted(set(refused))) or 'nothing'
-        return f'{where}: {what}: {law} does not refuse it; beside it {others} does'
+        others = ', '.join(sorted(set(refused)))
+        return f'{where}: {what}: {law} does not refuse it' + (f'; of what it rests on, {others} does' if others else '')
     return ''
 
 
