@@ -49,6 +49,12 @@ module _ {A : Type 0} (size : ℕ) (read : ℕ → A) where
       let f : at + size * (i + 1) ≡ size + (at + size * i) = omega (arith, mul-suc size i) in
       rw (e, f)
 
+-- a list in n places has n places
+pub length-pad : {A : Type 0} (z : A) (n : ℕ) (l : List A) → length (pad n z l) ≡ n
+length-pad z zero l = refl
+length-pad z (suc n) [] = ap suc (length-pad z n [])
+length-pad z (suc n) (x ∷ l) = ap suc (length-pad z n l)
+
 -- what stands at a place of a list in n places
 pub pad-at : {A : Type 0} (z : A) (n : ℕ) (l : List A) (i : ℕ) → i < n → getD (pad n z l) i z ≡ getD l i z
 pad-at z zero l i h = absurd (omega arith)

@@ -1,8 +1,10 @@
 pub mod Entries
+pub mod Stored
 pub mod Passed
 pub mod Reread
 pub mod Rewritten
 pub mod RoundTrip
+pub mod Writes
 pub mod Loaded
 pub mod Sample
 pub mod Order

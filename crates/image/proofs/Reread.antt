@@ -49,7 +49,7 @@ program-read p t x =
 
 -- bodies of one size
 module _ {A : Type 0} (size : ℕ) (write : A → List ℕ) (sized : (x : A) → length (write x) ≡ size) where
-  length-bodies : (l : List A) → length (bodies write l) ≡ size * length l
+  pub length-bodies : (l : List A) → length (bodies write l) ≡ size * length l
   length-bodies [] = sym (mul-zero size)
   length-bodies (x ∷ l) = rw (length-append, sized x, length-bodies l, mul-suc) (omega arith)
 
@@ -79,39 +79,40 @@ are-modes (p ∷ l) = one (p .mode) (map (λ (p : Program). modeByte (p .mode)) 
     one User rest h = h
     one Privileged rest h = h
 
-module _ (d : Description) (legal : Legal d) where
-  -- the table of contents and the shape, 22 bytes
-  abbrev front : List ℕ
-  front = contents (d .pages) (length (d .programs)) ++ shape (d .pages) (d .exponent) (length (d .programs))
+-- the table of contents and the shape, 22 bytes
+abbrev front : Description → List ℕ
+front d = contents (d .pages) (length (d .programs)) ++ shape (d .pages) (d .exponent) (length (d .programs))
 
-  -- the image up to the programs, and the programs
-  abbrev upTo : List ℕ
-  upTo = front ++ bodies word (d .fields)
+-- the image up to the programs, and the programs
+abbrev upTo : Description → List ℕ
+upTo d = front d ++ bodies word (d .fields)
 
-  up-to-length : length upTo ≡ 22 + 4 * d .pages
-  up-to-length = rw (length-append front (bodies word (d .fields)), length-bodies 2 word (λ w. refl) (d .fields), legal .two-fields) (omega arith)
+split : (d : Description) → bytesOf d ≡ upTo d ++ (bodies programBytes (d .programs) ++ [])
+unfolding bytesOf
+split d = rw append-nil
 
-  split : bytesOf d ≡ upTo ++ (bodies programBytes (d .programs) ++ [])
-  unfolding bytesOf
-  split = rw append-nil
+module _ (d : Description) (two-fields : length (d .fields) ≡ 2 * d .pages) where
+  up-to-length : length (upTo d) ≡ 22 + 4 * d .pages
+  up-to-length = rw (length-append (front d) (bodies word (d .fields)), length-bodies 2 word (λ w. refl) (d .fields), two-fields) (omega arith)
 
-  bytes-length : length (bytesOf d) ≡ 22 + 4 * d .pages + 5 * length (d .programs)
+  pub bytes-length : length (bytesOf d) ≡ 22 + 4 * d .pages + 5 * length (d .programs)
   bytes-length =
       let p = bodies programBytes (d .programs) in
-      rw (split, length-append upTo (p ++ []), up-to-length, append-nil p, length-bodies 5 programBytes (λ x. refl) (d .programs))
+      rw (split d, length-append (upTo d) (p ++ []), up-to-length, append-nil p, length-bodies 5 programBytes (λ x. refl) (d .programs))
 
+module _ (d : Description) (legal : Legal d) where
   fields-read : entries 2 (fieldAt (bytesOf d)) 22 (2 * d .pages) ≡ d .fields
   unfolding bytesOf
   fields-read =
       rw (← legal .two-fields)
-      (entries-read 2 word (λ w. refl) (λ w. w) fieldAt field-read front (bodies programBytes (d .programs)) (d .fields) ∙ map-id (d .fields))
+      (entries-read 2 word (λ w. refl) (λ w. w) fieldAt field-read (front d) (bodies programBytes (d .programs)) (d .fields) ∙ map-id (d .fields))
 
   -- the programs, or their mode bytes
   programs-read : {B : Type 0} (value : Program → B) (read : List ℕ → ℕ → B)
       → ((p t : List ℕ) (x : Program) → read (p ++ (programBytes x ++ t)) (length p) ≡ value x)
       → entries 5 (read (bytesOf d)) (22 + 4 * d .pages) (length (d .programs)) ≡ map value (d .programs)
   programs-read value read back =
-      rw (← up-to-length, split) (entries-read 5 programBytes (λ x. refl) value read back upTo [] (d .programs))
+      rw (← up-to-length d (legal .two-fields), split d) (entries-read 5 programBytes (λ x. refl) value read back (upTo d) [] (d .programs))
 
   pub describe-bytes : describe (bytesOf d) ≡ d
   unfolding describe bytesOf
@@ -141,6 +142,6 @@ module _ (d : Description) (legal : Legal d) where
         length-1 = omega arith;
         offset-2 = omega arith;
         length-2 = omega arith;
-        ends = bytes-length;
+        ends = bytes-length d (legal .two-fields);
         modes = ap areModes (programs-read (λ x. modeByte (x .mode)) modeAt mode-byte-read) ∙ are-modes (d .programs);
       }

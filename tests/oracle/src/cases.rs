@@ -108,17 +108,17 @@ pub fn sample() -> Plan {
 }
 
 /// One program in user mode with the given context and mask, pages of 32 bytes.
-fn small(pages: &[(u16, u16)], context: u16, mask: u16) -> Plan {
+pub fn small(pages: &[(u16, u16)], context: u16, mask: u16) -> Plan {
     Plan { exponent: 5, pages: pages.to_vec(), programs: vec![(context, mask, 0)] }
 }
 
 /// Entry and return: from user mode back to user mode, with the flag clear.
-fn clear_flag() -> Vec<Step> {
+pub fn clear_flag() -> Vec<Step> {
     vec![(entry_call(), 0), (return_call(), 0)]
 }
 
 /// Turn of another program: entry, switch to it and return.
-fn turn(program: u16) -> Vec<Step> {
+pub fn turn(program: u16) -> Vec<Step> {
     vec![(entry_call(), 0), (switch(program), 0), (return_call(), 0)]
 }
 

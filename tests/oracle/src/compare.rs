@@ -94,7 +94,7 @@ fn row((name, can_occur): (&str, &[u8]), counts: &[u64; 256]) -> bool {
 pub fn compare(seed: u64, runs: u64) -> ExitCode {
     let mut table = Table::new();
     for number in 0..runs {
-        let mut random = generator(seed, number);
+        let mut random = Random::numbered(seed, number);
         let input = inputs::any(&mut random);
         let answers = run::answers(&input);
         table.count(&input, &answers);
@@ -114,12 +114,6 @@ pub fn compare(seed: u64, runs: u64) -> ExitCode {
     }
     println!("compare: {runs} inputs, {} calls, 0 differences", table.calls());
     ExitCode::SUCCESS
-}
-
-/// Each input has a generator of its own, so that one can be repeated alone.
-fn generator(seed: u64, number: u64) -> Random {
-    let first = Random::new(seed).next();
-    Random::new(first.wrapping_add(number.wrapping_mul(0xD1B5_4A32_D192_ED03)))
 }
 
 /// Buffer lengths around the one needed. The needed length is always tried.

@@ -4,7 +4,7 @@
 use crate::image::load;
 use crate::machine::{bit, prevailing, Machine, Page, MOST_SAVED};
 use crate::random::Random;
-use crate::run::step;
+use crate::run::{step, RECORD};
 use crate::write::*;
 
 /// A legal image, about so many calls, and at times a remainder.
@@ -95,6 +95,27 @@ pub fn history(random: &mut Random, image: &[u8], calls: usize) -> Vec<u8> {
         }
         history.show_programs();
         history.show_fields();
+    }
+    history.records
+}
+
+/// A short list of records that change much, and that more often than not leaves the machine
+/// as a load does: on program 0, at depth 0, with the flag clear. Nothing is shown by accesses
+/// afterwards, since the writer shows it all.
+pub fn changes(random: &mut Random, image: &[u8], calls: usize) -> Vec<u8> {
+    let machine = load(image).expect("the image is legal");
+    let pool = Pool::new(random);
+    let (nesting, sinking) = (random.chance(10), random.chance(5));
+    let mut history = History { random, machine, pool, nesting, sinking, records: Vec::new() };
+    while history.records.len() < calls * RECORD {
+        if history.random.chance(20) {
+            history.visit();
+        } else {
+            history.one_call();
+        }
+    }
+    if history.random.chance(60) {
+        history.come_to_rest();
     }
     history.records
 }
@@ -360,6 +381,71 @@ impl History<'_> {
             self.put(return_call());
             let address = self.address_in(page);
             self.put(access(right, address));
+        }
+    }
+
+    /// A turn of some program with kernel stores in it, as far as the depth allows one.
+    fn visit(&mut self) {
+        if self.machine.depth() == 0 {
+            self.put(entry_call());
+        }
+        if self.random.chance(40) {
+            self.some_stores();
+        }
+        let program = self.random.below(self.machine.programs.len()) as u16;
+        self.put(switch(program));
+        if self.random.chance(40) {
+            self.some_stores();
+        }
+        self.put(return_call());
+        if self.random.chance(40) {
+            let bits = self.pool.bits(self.random);
+            self.put(mask(bits));
+        }
+    }
+
+    fn some_stores(&mut self) {
+        for _ in 0..self.random.between(1, 3) {
+            let bits = self.pool.bits(self.random);
+            let record = match self.random.below(5) {
+                0..=1 => store_context(bits),
+                2 => store_mask(bits),
+                _ => store_field(self.random.below(2) as u8, self.a_page(), bits),
+            };
+            self.put(record);
+        }
+    }
+
+    /// Goes to program 0 at depth 0 with the flag clear. From user mode above depth 0 no call
+    /// leads there; such a machine stays as it is.
+    fn come_to_rest(&mut self) {
+        while self.machine.privileged() && self.machine.depth() > 1 {
+            self.put(return_call());
+        }
+        if !self.machine.privileged() && self.machine.depth() > 0 {
+            return;
+        }
+        let away = self.machine.current != 0 || self.machine.depth() > 0 || self.machine.pending;
+        if away || self.random.chance(30) {
+            if self.machine.depth() == 0 {
+                self.put(entry_call());
+            }
+            if self.machine.current != 0 || self.random.chance(20) {
+                self.put(switch(0));
+            }
+            // What is stored after the switch is in the live registers alone.
+            if self.random.chance(50) {
+                self.some_stores();
+            }
+            self.put(return_call());
+        }
+        if self.random.chance(40) {
+            let bits = self.pool.bits(self.random);
+            // In privileged mode the kernel's store does what the command may not.
+            self.put(if self.machine.privileged() { store_mask(bits) } else { mask(bits) });
+        }
+        if self.machine.privileged() && self.random.chance(30) {
+            self.put(store_mode(0));
         }
     }
 

@@ -7,7 +7,8 @@ fn word(image: &[u8], at: usize) -> usize {
     usize::from(image[at]) * 256 + usize::from(image[at + 1])
 }
 
-/// A refused load gives no machine here: a run stops there, so nothing of it shows.
+/// A refused load gives no machine here: a run stops there, so nothing of it shows. Where
+/// it is written all the same, `Machine::all_zero` stands for it.
 pub fn load(image: &[u8]) -> Result<Machine, u8> {
     if image.len() < 31 || image.len() > 574 {
         return Err(20);

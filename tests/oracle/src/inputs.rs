@@ -1,11 +1,15 @@
 //! Random inputs of every sort: legal, damaged, noise, short and over-long ones.
 
-use crate::histories::{history, legal, legal_plan};
+#[cfg(feature = "linked")]
+use crate::histories::legal;
+use crate::histories::{history, legal_plan};
 use crate::random::Random;
+#[cfg(feature = "linked")]
 use crate::run::LONGEST_INPUT;
 use crate::write::*;
 
 /// Any input, of every sort.
+#[cfg(feature = "linked")]
 pub fn any(random: &mut Random) -> Vec<u8> {
     match random.below(200) {
         0..=139 => {
@@ -20,6 +24,16 @@ pub fn any(random: &mut Random) -> Vec<u8> {
     }
 }
 
+/// An input whose image is refused most of the time. None is long.
+pub fn spoilt(random: &mut Random) -> Vec<u8> {
+    match random.below(10) {
+        0 => noise(random),
+        1 => short(random),
+        _ => damaged(random),
+    }
+}
+
+#[cfg(feature = "linked")]
 fn run_length(random: &mut Random) -> usize {
     match random.below(10) {
         0 => 0,
@@ -123,6 +137,7 @@ fn short(random: &mut Random) -> Vec<u8> {
 }
 
 /// A legal input of the longest length, or a few bytes below it.
+#[cfg(feature = "linked")]
 fn full(random: &mut Random) -> Vec<u8> {
     let image = legal_plan(random).image();
     let records = history(random, &image, 5_600);
@@ -133,6 +148,7 @@ fn full(random: &mut Random) -> Vec<u8> {
     bytes
 }
 
+#[cfg(feature = "linked")]
 fn over_long(random: &mut Random) -> Vec<u8> {
     let mut bytes = legal(random, 20);
     let more = random.between(2, 40_000);

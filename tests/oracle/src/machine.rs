@@ -79,6 +79,21 @@ pub fn bit(domain: Domain) -> u16 {
 }
 
 impl Machine {
+    /// What a refused load gives: every number zero, every mode user, the flag clear.
+    pub fn all_zero() -> Machine {
+        Machine {
+            exponent: 0,
+            pages: Vec::new(),
+            context: 0,
+            mask: 0,
+            mode: Mode::User,
+            pending: false,
+            saved: Vec::new(),
+            programs: Vec::new(),
+            current: 0,
+        }
+    }
+
     pub fn page_size(&self) -> u64 {
         1 << self.exponent
     }

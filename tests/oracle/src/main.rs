@@ -5,20 +5,24 @@ mod cases;
 mod compare;
 mod histories;
 mod image;
-#[cfg(feature = "linked")]
 mod inputs;
 mod machine;
 mod random;
+mod rewrites;
 mod run;
 #[cfg(test)]
 mod tests;
 mod write;
+mod writer;
+mod writes;
 
 use std::env;
 use std::io::{self, Read, Write};
 use std::process::ExitCode;
 
-const USAGE: &str = "usage: oracle text | answers | cases-input | cases-output | cases-list | compare SEED RUNS";
+const USAGE: &str = "usage: oracle text | answers | cases-input | cases-output | cases-list | compare SEED RUNS
+       oracle writes-text | writes-input | writes-output | writes-list | writes-random SEED RUNS";
+const NUMBERS: &str = "SEED and RUNS are decimal numbers";
 
 fn main() -> ExitCode {
     let arguments: Vec<String> = env::args().skip(1).collect();
@@ -32,10 +36,24 @@ fn main() -> ExitCode {
         ["cases-input"] => cases::file(),
         ["cases-output"] => cases::output().into_bytes(),
         ["cases-list"] => cases::listing().into_bytes(),
+        ["writes-text"] => rewrites::text(&standard_input()).into_bytes(),
+        ["writes-input"] => writes::file(),
+        ["writes-output"] => writes::output().into_bytes(),
+        ["writes-list"] => writes::listing().into_bytes(),
+        ["writes-random", seed, runs] => match (seed.parse(), runs.parse()) {
+            (Ok(seed), Ok(runs)) => match writes::many::file(seed, runs) {
+                Ok(file) => file,
+                Err(wrong) => {
+                    eprint!("{wrong}");
+                    return ExitCode::FAILURE;
+                }
+            },
+            _ => return fail(NUMBERS),
+        },
         ["compare", seed, runs] => {
             return match (seed.parse(), runs.parse()) {
                 (Ok(seed), Ok(runs)) => compare(seed, runs),
-                _ => fail("SEED and RUNS are decimal numbers"),
+                _ => fail(NUMBERS),
             }
         }
         _ => return fail(USAGE),

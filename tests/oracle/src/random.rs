@@ -9,6 +9,12 @@ impl Random {
         Random { state: seed }
     }
 
+    /// The generator of one input among many, so that each can be repeated alone.
+    pub fn numbered(seed: u64, number: u64) -> Random {
+        let first = Random::new(seed).next();
+        Random::new(first.wrapping_add(number.wrapping_mul(0xD1B5_4A32_D192_ED03)))
+    }
+
     pub fn next(&mut self) -> u64 {
         self.state = self.state.wrapping_add(0x9E37_79B9_7F4A_7C15);
         let mut z = self.state;

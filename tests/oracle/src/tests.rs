@@ -1,9 +1,15 @@
-//! The sample and the starred cases (RULES 5.12, 5.13, 6.11) with their numbers, and the stored cases.
+//! The sample and the starred cases (RULES 5.12, 5.13, 6.11) with their numbers, the stored cases,
+//! and the writer with what its promises say of it (RULES 5.14 to 5.18).
 
 use crate::cases::{self, sample};
+use crate::histories::legal_plan;
 use crate::image::load;
-use crate::machine::{prevailing, Domain, Machine, Mode, Page, READ, WRITE};
-use crate::run::{answers, split, text};
+use crate::machine::{prevailing, Domain, Fields, Machine, Mode, Page, Program, READ, WRITE};
+use crate::random::Random;
+use crate::rewrites;
+use crate::run::{answers, split, step, text, RECORD};
+use crate::writer::{write_image, Written};
+use crate::writes::{self, many};
 use std::collections::BTreeSet;
 
 /// The sample image (RULES 5.12), byte by byte, not made by this program's own writer.
@@ -165,4 +171,190 @@ fn text_at_the_edges() {
     let mut refused = cut.clone();
     refused[2 + 43] = 2;
     assert_eq!(text(&refused), "load 25\n");
+}
+
+/// The writer on a buffer of so many bytes, each 0xEE beforehand.
+fn written(machine: &Machine, room: usize) -> (Written, Vec<u8>) {
+    let mut buffer = vec![0xEE; room];
+    let written = write_image(machine, &mut buffer);
+    (written, buffer)
+}
+
+/// The number that refuses, with any buffer, all of which stays as it is (RULES 5.16).
+fn write_refused(machine: &Machine, number: u8, rooms: &[usize]) {
+    for &room in rooms {
+        assert_eq!(written(machine, room), (Written { number, count: 0 }, vec![0xEE; room]), "room {room}");
+    }
+}
+
+#[test]
+fn the_sample_is_written_back() {
+    let done = Written { number: 0, count: 44 };
+    assert_eq!(written(&loaded(), 44), (done, SAMPLE.to_vec()));
+    assert_eq!(written(&loaded(), 47), (done, [&SAMPLE[..], &[0xEE; 3]].concat()));
+    write_refused(&loaded(), 27, &[0, 1, 31, 43]);
+}
+
+#[test]
+fn the_live_registers_are_written_and_the_first_entry_is_not() {
+    let mut machine = loaded();
+    (machine.context, machine.mask, machine.mode) = (0x1234, 0x5678, Mode::Privileged);
+    machine.programs[0] = Program { context: 0xAAAA, mask: 0xBBBB, mode: Mode::User };
+    machine.programs[1] = Program { context: 0x9ABC, mask: 0xDEF0, mode: Mode::Privileged };
+    let mut due = SAMPLE;
+    due[34..].copy_from_slice(&[0x12, 0x34, 0x56, 0x78, 1, 0x9A, 0xBC, 0xDE, 0xF0, 1]);
+    assert_eq!(written(&machine, 44), (Written { number: 0, count: 44 }, due.to_vec()));
+}
+
+#[test]
+fn an_unsound_machine_is_not_written_whatever_else_is_wrong() {
+    let sample = loaded();
+    let page = Fields { read: 1, write: 1 };
+    let program = sample.programs[0];
+    let unsound = [
+        Machine::all_zero(),
+        Machine { pages: vec![], ..sample.clone() },
+        Machine { pages: vec![page; 129], exponent: 5, ..sample.clone() },
+        Machine { pages: vec![page; 17], exponent: 12, ..sample.clone() },
+        Machine { exponent: 4, ..sample.clone() },
+        Machine { exponent: 13, ..sample.clone() },
+        Machine { programs: vec![], ..sample.clone() },
+        Machine { programs: vec![program; 9], ..sample.clone() },
+        Machine { current: 2, ..sample.clone() },
+        Machine { saved: vec![Mode::User; 9], ..sample.clone() },
+        Machine { pending: true, mode: Mode::Privileged, ..sample.clone() },
+    ];
+    for machine in unsound {
+        write_refused(&machine, 1, &[0, 43, 44, 640]);
+        if machine.depth() == 0 {
+            // A depth of 1 is in order by itself, and would be refused with 26.
+            write_refused(&Machine { saved: vec![Mode::User], ..machine }, 1, &[0, 640]);
+        }
+    }
+}
+
+#[test]
+fn a_machine_that_is_not_at_rest_is_refused_before_a_short_buffer() {
+    let sample = loaded();
+    for reasons in 1..8 {
+        let mut machine = sample.clone();
+        if reasons & 1 != 0 {
+            machine.current = 1;
+        }
+        if reasons & 2 != 0 {
+            machine.saved = vec![Mode::User];
+        }
+        if reasons & 4 != 0 {
+            machine.pending = true;
+        }
+        write_refused(&machine, 26, &[0, 43, 44, 640]);
+    }
+}
+
+#[test]
+fn a_legal_image_that_is_loaded_and_written_gives_its_bytes_again() {
+    for seed in 0..300 {
+        let image = legal_plan(&mut Random::new(seed)).image();
+        let machine = load(&image).expect("the image is legal");
+        let done = Written { number: 0, count: image.len() };
+        assert_eq!(written(&machine, image.len()), (done, image), "seed {seed}");
+    }
+}
+
+#[test]
+fn loading_what_was_written_gives_the_machine_again() {
+    let (mut changed, mut entry_old, mut privileged) = (0, 0, 0);
+    for number in 0..400 {
+        let case = many::case(&mut Random::numbered(1, number));
+        let (image, records) = split(rewrites::take_apart(&case).1);
+        let Ok(mut machine) = load(image) else {
+            continue;
+        };
+        for record in records.chunks_exact(RECORD) {
+            step(&mut machine, record);
+        }
+        let (answer, buffer) = written(&machine, 640);
+        if answer.number != 0 {
+            assert_eq!(answer.number, 26);
+            continue;
+        }
+        let live = Program { context: machine.context, mask: machine.mask, mode: machine.mode };
+        changed += usize::from(buffer[..answer.count] != *image);
+        entry_old += usize::from(machine.programs[0] != live);
+        privileged += usize::from(live.mode == Mode::Privileged);
+        machine.programs[0] = live;
+        assert_eq!(load(&buffer[..answer.count]), Ok(machine), "case number {number}");
+    }
+    // The random cases would be of little use without changes, and with an entry that is up to date.
+    assert!(changed >= 100 && entry_old >= 60 && privileged >= 10, "{changed}, {entry_old}, {privileged}");
+}
+
+#[test]
+fn the_oracle_gives_what_is_written_beside_the_cases_of_the_writer() {
+    let mut reached = BTreeSet::new();
+    let mut load_reached = BTreeSet::new();
+    let mut whole = 0;
+    for (before, case) in writes::all().iter().enumerate() {
+        case.check(before + 1);
+        for due in case.due.iter().flatten() {
+            reached.insert(due.written.number);
+            load_reached.insert(due.load);
+        }
+        whole += usize::from(case.due.as_ref().is_some_and(|due| due[0].whole()));
+    }
+    assert_eq!(reached, BTreeSet::from(many::NUMBERS));
+    assert_eq!(load_reached, BTreeSet::from([0, 20, 21, 22, 23, 24, 25]));
+    assert!(whole >= 60, "every byte by hand in {whole} cases");
+}
+
+#[test]
+fn random_cases_of_the_writer_reach_all_its_numbers_in_a_short_file() {
+    for seed in 1..=20 {
+        let file = many::file(seed, 400).expect("each number comes often");
+        assert!(file.len() < 262_144, "seed {seed}");
+        assert_eq!(rewrites::cases(&file).len(), 400);
+    }
+    assert_eq!(many::file(1, 0), Ok(vec![]));
+    assert!(many::file(1, 3).is_ok());
+}
+
+#[test]
+fn the_text_of_two_rounds() {
+    let image = "01 00 00 12 00 04 02 00 00 16 00 0C 03 00 00 22 00 0A 03 08 02 00 \
+                 00 09 00 00 00 0A 00 02 00 0C 00 04 00 07 00 07 00 00 08 FF FF 00 D3";
+    let calls = [4, 0, 0, 0, 0, 7, 6, 0, 0, 0, 0, 0, 5];
+    let good = [&[0, 45, 0, 44], &SAMPLE[..], &calls].concat();
+    let round = format!("load 0\n1 0\n2 7\nwrite 0 44\n{image}\n");
+    let file = rewrites::file([&good[..], &[0, 3, 0, 0], &[]]);
+    let nothing = "load 20\nwrite 1 0\n";
+    let short = format!("{nothing}FF FE FD\n");
+    let none = format!("{nothing}\n");
+    let due = format!("case 1\n{round}{round}case 2\n{short}{short}case 3\n{none}{none}");
+    assert_eq!(rewrites::text(&file), due);
+
+    // A case that the file cuts off is not there, nor is a length that it cuts off.
+    assert_eq!(rewrites::text(&[&file[..], &[0, 0, 0]].concat()), due);
+    assert_eq!(rewrites::text(&[&file[..], &[0, 0, 0, 2, 0]].concat()), due);
+    assert_eq!(rewrites::text(&[&file[..], &[255, 255, 255, 255, 0]].concat()), due);
+    assert_eq!(rewrites::text(&[]), "");
+    let not_at_rest = [&[0, 2, 0, 44], &SAMPLE[..], &[5, 0, 0, 0, 0, 0]].concat();
+    let due = format!("case 1\nload 0\n1 0\nwrite 26 0\nFF FE\n{nothing}FF FE\n");
+    assert_eq!(rewrites::text(&rewrites::file([&not_at_rest[..]])), due);
+}
+
+#[test]
+fn the_room_of_a_case() {
+    for (case, room, input) in [
+        (&[][..], 0, &[][..]),
+        (&[0], 0, &[]),
+        (&[2], 512, &[]),
+        (&[3], 640, &[]),
+        (&[0, 44], 44, &[]),
+        (&[1, 2, 9, 8], 258, &[9, 8]),
+        (&[2, 0x80, 7], 640, &[7]),
+        (&[2, 0x81], 640, &[]),
+        (&[255, 255], 640, &[]),
+    ] {
+        assert_eq!(rewrites::take_apart(case), (room, input));
+    }
 }

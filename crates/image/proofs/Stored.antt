@@ -1,0 +1,50 @@
+-- Bytes stored in a buffer one after another are their join stored at once, also where a part of the buffer was lent for some of them.
+use Prim.Native.Nat.{ℕ, zero, suc, _+_, _*_, _-_, _≤_, _<_}
+use mathlib.Core.Path.{_≡_, refl, ap}
+use mathlib.Core.List.{List, [], _∷_, _++_, append-nil}
+use native.Mathlib.Nat.{add-zero, add-suc, suc-add, mul-suc}
+use native.Mathlib.Numerals.{add-one}
+use native.Mathlib.Omega.{arith}
+use lib.ListN.{length, getD, set, take, drop, length-drop, drop-of-length-le}
+use lib.Seq.{sets, take-all, drop-cons}
+use Rattle.image.specs.Bytes.{bodies}
+
+pub sets-append : (l : List ℕ) (i : ℕ) (s t : List ℕ) → sets (sets l i s) (i + length s) t ≡ sets l i (s ++ t)
+sets-append l i [] t = rw add-zero
+sets-append l i (x ∷ s) t = rw (add-suc, ← suc-add) (sets-append (set l i x) (suc i) s t)
+
+-- the same where the place behind the first is known by an equation
+pub sets-next : (l : List ℕ) (i next : ℕ) (s t : List ℕ) → next ≡ i + length s → sets (sets l i s) next t ≡ sets l i (s ++ t)
+sets-next l i next s t e = rw e (sets-append l i s t)
+
+sets-behind : (x : ℕ) (l : List ℕ) (i : ℕ) (s : List ℕ) → sets (x ∷ l) (suc i) s ≡ x ∷ sets l i s
+sets-behind x l i [] = refl
+sets-behind x l i (y ∷ s) = sets-behind x (set l i y) (suc i) s
+
+sets-none : (i : ℕ) (s : List ℕ) → sets [] i s ≡ []
+sets-none i [] = refl
+sets-none i (y ∷ s) = sets-none (suc i) s
+
+sets-from : (l : List ℕ) (at : ℕ) (s : List ℕ) → take at l ++ sets (drop at l) 0 s ≡ sets l at s
+sets-from l zero s = refl
+sets-from [] (suc at) s = simp sets-none
+sets-from (x ∷ l) (suc at) s = rw sets-behind (ap (λ (t : List ℕ). x ∷ t) (sets-from l at s))
+
+-- a buffer whose part from a place on was lent, and came back as other bytes
+abbrev pub returned : List ℕ → ℕ → List ℕ → List ℕ
+returned l at part = take at l ++ (part ++ drop (length l - at) (drop at l))
+
+-- what was stored from the part's first byte on is stored in the buffer at that place
+pub sets-part : (l : List ℕ) (at : ℕ) (s part : List ℕ) → part ≡ sets (take (length l - at) (drop at l)) 0 s → returned l at part ≡ sets l at s
+sets-part l at s part e =
+    let long : length (drop at l) ≤ length l - at = simp length-drop (omega arith) in
+    rw (e, take-all (length l - at) (drop at l) long, drop-of-length-le (drop at l) {i = length l - at} long, append-nil) (sets-from l at s)
+
+-- a turn of a loop over bodies of one size: the body at i stored at its place, and those past it behind it, are the bodies from i on
+pub turn-body : {A : Type 0} (size : ℕ) (write : A → List ℕ) → ((x : A) → length (write x) ≡ size)
+    → (z : A) (l : List A) (out : List ℕ) (i : ℕ) → i < length l
+    → sets (sets out (size * i) (write (getD l i z))) (size * (i + 1)) (bodies write (drop (i + 1) l)) ≡ sets out (size * i) (bodies write (drop i l))
+turn-body size write sized z l out i h =
+    rw (drop-cons l i z h, add-one)
+    (sets-next out (size * i) (size * suc i) (write (getD l i z)) (bodies write (drop (suc i) l))
+    (omega (arith, mul-suc size i, sized (getD l i z))))

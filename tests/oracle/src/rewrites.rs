@@ -1,0 +1,104 @@
+//! What the test program `rewrites` prints: for each case two rounds of load, calls and write,
+//! the second on the bytes that the first wrote.
+
+use crate::image::load;
+use crate::machine::Machine;
+use crate::run::{split, step, RECORD};
+use crate::writer::{write_image, Written};
+
+/// A buffer is never longer than this, whatever room a case names.
+pub const MOST_ROOM: usize = 640;
+
+/// What place `at` of a buffer holds before a write. Neighbours differ, so that a byte moved
+/// or left out shows.
+pub fn filling(at: usize) -> u8 {
+    255 - (at % 256) as u8
+}
+
+pub struct Round {
+    pub load: u8,
+    /// One answer for each call; none after a refused load.
+    pub calls: Vec<u8>,
+    pub written: Written,
+    /// All of the buffer after the write.
+    pub buffer: Vec<u8>,
+}
+
+impl Round {
+    fn text(&self) -> String {
+        let mut text = format!("load {}\n", self.load);
+        for (before, answer) in self.calls.iter().enumerate() {
+            text += &format!("{} {}\n", before + 1, answer);
+        }
+        text += &format!("write {} {}\n", self.written.number, self.written.count);
+        let bytes: Vec<String> = self.buffer.iter().map(|byte| format!("{byte:02X}")).collect();
+        text += &bytes.join(" ");
+        text += "\n";
+        text
+    }
+}
+
+fn round(image: &[u8], records: &[u8], room: usize) -> Round {
+    let mut buffer: Vec<u8> = (0..room).map(filling).collect();
+    // A refused load leaves the all-zero machine. No call is made on it, but it is written.
+    let (load, mut machine, records) = match load(image) {
+        Ok(machine) => (0, machine, records),
+        Err(number) => (number, Machine::all_zero(), &[][..]),
+    };
+    let calls = records.chunks_exact(RECORD).map(|record| step(&mut machine, record)).collect();
+    let written = write_image(&machine, &mut buffer);
+    Round { load, calls, written, buffer }
+}
+
+/// The room that a case names, as far as its bytes go, and the input after it.
+pub fn take_apart(case: &[u8]) -> (usize, &[u8]) {
+    let byte = |at: usize| case.get(at).map_or(0, |&byte| usize::from(byte));
+    let named = byte(0) * 256 + byte(1);
+    (named.min(MOST_ROOM), case.get(2..).unwrap_or(&[]))
+}
+
+/// Both rounds of a case.
+pub fn rounds(case: &[u8]) -> [Round; 2] {
+    let (room, input) = take_apart(case);
+    let (image, records) = split(input);
+    let first = round(image, records, room);
+    // A refused write wrote 0 bytes: the second round then has the empty image.
+    let second = round(&first.buffer[..first.written.count], records, room);
+    [first, second]
+}
+
+/// The whole cases of a file. One that the file cuts off is left out.
+pub fn cases(mut file: &[u8]) -> Vec<&[u8]> {
+    let mut cases = Vec::new();
+    while let Some((length, rest)) = file.split_first_chunk::<4>() {
+        let length = u32::from_be_bytes(*length) as usize;
+        let Some((case, rest)) = rest.split_at_checked(length) else {
+            break;
+        };
+        cases.push(case);
+        file = rest;
+    }
+    cases
+}
+
+/// What `rewrites` prints for a file of cases.
+pub fn text(file: &[u8]) -> String {
+    let mut text = String::new();
+    for (before, case) in cases(file).into_iter().enumerate() {
+        text += &format!("case {}\n", before + 1);
+        for round in rounds(case) {
+            text += &round.text();
+        }
+    }
+    text
+}
+
+/// The file of these cases.
+pub fn file<'a>(cases: impl IntoIterator<Item = &'a [u8]>) -> Vec<u8> {
+    let mut file = Vec::new();
+    for case in cases {
+        file.extend((case.len() as u32).to_be_bytes());
+        file.extend(case);
+    }
+    file
+}
