@@ -6,6 +6,7 @@ pub mod Rewritten
 pub mod RoundTrip
 pub mod Writes
 pub mod Loaded
+pub mod Restarts
 pub mod Sample
 pub mod Order
 pub mod Pinned

@@ -1,5 +1,5 @@
 -- Writing an image: when each number comes, and what is then in the buffer. The parts, each stored from its own offset on, are the image.
-use Prim.Native.Nat.{ℕ, _+_, _*_, _≤_, _<_}
+use Prim.Native.Nat.{ℕ, _+_, _*_, _-_, _≤_, _<_}
 use mathlib.Core.Path.{_≡_, refl, ap, sym, _∙_, subst}
 use mathlib.Core.Bool.{Bool, true, false, not, _&&_}
 use mathlib.Core.List.{List, [], _∷_, _++_}
@@ -7,8 +7,8 @@ use borrow.Author.Tests.{eqb-true, eqb-false, ltb-true, ltb-false, eq-eqb, ne-eq
 use native.Mathlib.Omega.{arith}
 use native.Mathlib.Nat.{zero-add}
 use lib.Dec.{eqb, ltb}
-use lib.ListN.{length, drop, set}
-use lib.Seq.{sets, sets-eq}
+use lib.ListN.{length, getD, drop, set, length-append, length-drop}
+use lib.Seq.{sets, sets-eq, getD-append-add, getD-drop}
 use Rattle.rules.specs.Refusals.{first, pick}
 use Rattle.machine.specs.Machine.{isSound, noProgram}
 use Rattle.machine.specs.declared.record.Machine.{Machine}
@@ -124,17 +124,11 @@ module _ (m : Machine) (room : ℕ) where
   given (too-short r h) = by-tests true true true (r .sound) (rests r) (lt-ltb room (length (imageFor m)) (omega (arith, image-length m)))
   given (done r h) = by-tests true true false (r .sound) (rests r) (le-ltb room (length (imageFor m)) (omega (arith, image-length m)))
 
-  -- RULES 5.15: each number comes where its condition says, and nowhere else; there are no others
-  pub number-exactly : (n : ℕ) → (writtenOf m room .number ≡ n → Gives m room n) × (Gives m room n → writtenOf m room .number ≡ n)
-  unfolding writtenOf
-  number-exactly n = ((λ e. subst (Gives m room) e gives), given)
-
--- what is written, and the buffer after it, where nothing refuses
-module _ (m : Machine) (buffer : List ℕ) (accepted : first (writeChecks m (length buffer)) ≡ 0) where
-  pub ready : Ready m × (22 + 4 * m .pages + 5 * m .programs ≤ length buffer)
-  ready = of (first (writeChecks m (length buffer))) (gives m (length buffer)) accepted
+  -- what is known where the number is 0
+  pub ready : first (writeChecks m room) ≡ 0 → Ready m × (22 + 4 * m .pages + 5 * m .programs ≤ room)
+  ready accepted = of (first (writeChecks m room)) gives accepted
     where
-      of : (n : ℕ) → Gives m (length buffer) n → n ≡ 0 → Ready m × (22 + 4 * m .pages + 5 * m .programs ≤ length buffer)
+      of : (n : ℕ) → Gives m room n → n ≡ 0 → Ready m × (22 + 4 * m .pages + 5 * m .programs ≤ room)
       of n (not-sound h) e = absurd (omega arith)
       of n (other-runs s h) e = absurd (omega arith)
       of n (mode-saved s h) e = absurd (omega arith)
@@ -142,7 +136,14 @@ module _ (m : Machine) (buffer : List ℕ) (accepted : first (writeChecks m (len
       of n (too-short r h) e = absurd (omega arith)
       of n (done r h) e = (r, h)
 
-  all-written : writtenBytes m (length buffer) ≡ imageFor m
+  -- RULES 5.15: each number comes where its condition says, and nowhere else; there are no others
+  pub number-exactly : (n : ℕ) → (writtenOf m room .number ≡ n → Gives m room n) × (Gives m room n → writtenOf m room .number ≡ n)
+  unfolding writtenOf
+  number-exactly n = ((λ e. subst (Gives m room) e gives), given)
+
+-- what is written, and the buffer after it, where nothing refuses
+module _ (m : Machine) (buffer : List ℕ) (accepted : first (writeChecks m (length buffer)) ≡ 0) where
+  pub all-written : writtenBytes m (length buffer) ≡ imageFor m
   unfolding writtenBytes
   all-written = rw accepted
 
@@ -157,7 +158,7 @@ module _ (m : Machine) (buffer : List ℕ) (accepted : first (writeChecks m (len
       let image = imageFor m in
       rw all-written
       (ap (λ (n : ℕ). image ++ drop n buffer) (sym (zero-add (length image)))
-      ∙ sym (sets-eq image buffer 0 (omega (arith, image-length m, ready .1))))
+      ∙ sym (sets-eq image buffer 0 (omega (arith, image-length m, ready m (length buffer) accepted .1))))
 
 -- and where something does
 module _ (m : Machine) (buffer : List ℕ) (refused : eqb (first (writeChecks m (length buffer))) 0 ≡ false) where
@@ -172,3 +173,31 @@ module _ (m : Machine) (buffer : List ℕ) (refused : eqb (first (writeChecks m 
   pub stored-none : bufferAfter m buffer ≡ buffer
   unfolding bufferAfter
   stored-none = rw none-written
+
+-- RULES 5.16: whatever refuses, no byte is written and the whole buffer is as it was
+pub refused-keeps : (m : Machine) (buffer : List ℕ) → (writtenOf m (length buffer) .number ≡ 0 → ⊥)
+    → (writtenOf m (length buffer) .count ≡ 0) × (bufferAfter m buffer ≡ buffer)
+unfolding writtenOf
+refused-keeps m buffer refused =
+    let not-zero = ne-eqb (first (writeChecks m (length buffer))) 0 refused in
+    (ap length (none-written m buffer not-zero), stored-none m buffer not-zero)
+
+-- RULES 5.16: what is written fits, so that a buffer keeps its length, and the bytes past the count stay
+pub buffer-kept : (m : Machine) (buffer : List ℕ)
+    → (length (bufferAfter m buffer) ≡ length buffer)
+    × ((i : ℕ) → writtenOf m (length buffer) .count ≤ i → getD (bufferAfter m buffer) i 0 ≡ getD buffer i 0)
+unfolding bufferAfter writtenOf
+buffer-kept m buffer =
+    let written = writtenBytes m (length buffer) in
+    let most = split (eqb (first (writeChecks m (length buffer))) 0) refl in (
+      simp (length-append, length-drop) (omega (arith, most)),
+      λ i past.
+          let e : i ≡ length written + (i - length written) = omega arith in
+          rw e (getD-append-add written (drop (length written) buffer) (i - length written) 0 ∙ getD-drop (length written) buffer (i - length written) 0),
+    )
+  where
+    split : (b : Bool) → eqb (first (writeChecks m (length buffer))) 0 ≡ b → length (writtenBytes m (length buffer)) ≤ length buffer
+    split true e =
+        let accepted = eqb-true (first (writeChecks m (length buffer))) 0 e in
+        rw (all-written m buffer accepted) (omega (arith, image-length m, ready m (length buffer) accepted .1))
+    split false e = rw (none-written m buffer e) (omega arith)

@@ -84,7 +84,7 @@ fn at_rest_again(writes: &mut Writes) {
         &[vec![(read(512), 9), (mask(0x0007), 8)], clear_flag()].concat(),
     );
     unchanged(
-        "the same three reasons, one after another, each gone at the end",
+        "depth, another program and the flag, one after another, each gone at the end",
         &[turn(1), vec![(read(0), 0), (write(0), 9)], turn(0), vec![(read(512), 9)], clear_flag()].concat(),
     );
     let at_rest = [vec![(read(512), 9)], clear_flag()].concat();

@@ -66,11 +66,11 @@ fn greatest(writes: &mut Writes) {
         [(22, "80 00 01 80  80 01 01 81"), (270, "80 3E 01 BE  80 3F 01 BF  80 40 01 C0"), (526, "80 7E 01 FE")];
     let last_page = (530, "80 7F 01 FF");
     let first_program = (534, "01 23 45 67 00");
-    let programs = (
-        539,
-        "89 AB CD EF 01  FE DC BA 98 00  76 54 32 10 01  13 57 9B DF 00  02 46 8A CE 00  F0 E1 D2 C3 01  B4 A5 96 87 00",
-    );
-    let image = [&[head], &pages[..], &[last_page, first_program, programs]].concat();
+    let programs = [
+        (539, "89 AB CD EF 01  FE DC BA 98 00  76 54 32 10 01"),
+        (554, "13 57 9B DF 00  02 46 8A CE 00  F0 E1 D2 C3 01  B4 A5 96 87 00"),
+    ];
+    let image = [&[head], &pages[..], &[last_page, first_program], &programs].concat();
     writes.written("greatest shape, room exact", 574, &greatest, &[], 574, &image);
     writes.refused("greatest shape, one byte short", 573, &greatest, &[], 27);
     writes.written("greatest shape, one byte more", 575, &greatest, &[], 574, &[&image[..], &[(574, "C1")]].concat());
@@ -94,7 +94,7 @@ fn greatest(writes: &mut Writes) {
             (grant(READ, 128, 15), 4),
         ],
         574,
-        &[&[head], &pages[..], &[(530, "00 7F 81 FF"), first_program, programs]].concat(),
+        &[&[head], &pages[..], &[(530, "00 7F 81 FF"), first_program], &programs].concat(),
     );
     writes.written(
         "last page of 128: both fields stored with domain 15 alone, and the live registers",
@@ -107,7 +107,7 @@ fn greatest(writes: &mut Writes) {
             (store_mask(0xFF7F), 0),
         ]),
         574,
-        &[&[head], &pages[..], &[(530, "80 00 80 00"), (534, "80 01 FF 7F 00"), programs]].concat(),
+        &[&[head], &pages[..], &[(530, "80 00 80 00"), (534, "80 01 FF 7F 00")], &programs].concat(),
     );
     writes.refused("greatest shape, depth 1", 574, &greatest, &[(entry_call(), 0)], 26);
 }
@@ -159,8 +159,10 @@ fn between(writes: &mut Writes) {
         96,
         &[
             (0, "01 00 00 12 00 04  02 00 00 16 00 40  03 00 00 56 00 0A  10 0C 02 00"),
-            (22, "80 00 01 80  80 01 01 81  80 02 01 82  80 03 01 83  80 04 01 84  80 05 01 85  80 06 01 86  80 07 01 87"),
-            (54, "80 08 01 88  80 09 01 89  80 0A 01 8A  80 0B 01 8B  80 0C 01 8C  80 0D 01 8D  80 0E 01 8E  00 0F 81 8F"),
+            (22, "80 00 01 80  80 01 01 81  80 02 01 82  80 03 01 83"),
+            (38, "80 04 01 84  80 05 01 85  80 06 01 86  80 07 01 87"),
+            (54, "80 08 01 88  80 09 01 89  80 0A 01 8A  80 0B 01 8B"),
+            (70, "80 0C 01 8C  80 0D 01 8D  80 0E 01 8E  00 0F 81 8F"),
             (86, "01 23 45 67 00  89 AB CD EF 01  9F"),
         ],
     );

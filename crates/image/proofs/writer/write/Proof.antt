@@ -28,20 +28,20 @@ cast-write-image c =
     let then : tie.Then1 = (search) in
     let start : tie.Start = (search) in
     let m = start .args .machine in
-    record { fits = omega (arith, sound-facts m (ready m (start .args .buf .now) (accepted then) .0 .sound) .pages-most) }
+    record { fits = omega (arith, sound-facts m (ready m (length (start .args .buf .now)) (accepted then) .0 .sound) .pages-most) }
 
 cast-write-image-2 : tie.Need-cast-write-image-2
 cast-write-image-2 c =
     let then : tie.Then1 = (search) in
     let start : tie.Start = (search) in
     let m = start .args .machine in
-    record { fits = omega (arith, sound-facts m (ready m (start .args .buf .now) (accepted then) .0 .sound) .programs-most) }
+    record { fits = omega (arith, sound-facts m (ready m (length (start .args .buf .now)) (accepted then) .0 .sound) .programs-most) }
 
 write-image-requires : tie.Need-write-image-requires
 write-image-requires c κs =
     let then : tie.Then1 = (search) in
     let start : tie.Start = (search) in
-    ready (start .args .machine) (start .args .buf .now) (accepted then) .1
+    ready (start .args .machine) (length (start .args .buf .now)) (accepted then) .1
 
 returns : tie.Need-returns
 returns c =
