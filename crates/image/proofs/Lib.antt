@@ -11,3 +11,4 @@ pub mod Sample
 pub mod Order
 pub mod Pinned
 pub mod Spelled
+pub mod WritePinned

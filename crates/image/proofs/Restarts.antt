@@ -2,31 +2,27 @@
 -- and an image that was loaded is written again byte for byte.
 use Prim.Native.Nat.{ℕ, zero, suc, _+_, _*_, _≤_, _<_}
 use mathlib.Core.Path.{_≡_, refl, ap, sym, _∙_}
-use mathlib.Core.Bool.{Bool, true, false}
+use mathlib.Core.Bool.{Bool, false}
 use mathlib.Core.List.{List, [], _∷_, _++_}
-use borrow.Author.Tests.{ne-eqb}
 use native.Mathlib.Omega.{arith}
-use native.Mathlib.Nat.{add-comm}
-use lib.ListN.{length, getD, take, drop, replicate, length-append, length-drop}
+use lib.ListN.{length, getD, take, drop, replicate}
 use lib.Seq.{take-at, getD-drop}
-use Rattle.rules.specs.Refusals.{first, pick}
 use Rattle.rules.specs.declared.registers.Registers.{Registers}
-use Rattle.machine.specs.Machine.{zero as allZero, noProgram}
+use Rattle.machine.specs.Machine.{noProgram}
 use Rattle.machine.specs.declared.record.Machine.{Machine}
 use Rattle.machine.specs.declared.record.Program.{Program}
-use Rattle.machine.specs.declared.record.Answered.{Answered}
 use Rattle.machine.proofs.Sound.{sound-facts}
 use Rattle.machine.proofs.Written.{whole}
 use Rattle.image.specs.Bytes.{Bytes}
 use Rattle.image.specs.Description.{Description, Legal, pad, liveOf, bytesOf, machineOf}
 use Rattle.image.specs.Load.{describe, loadOf}
-use Rattle.image.specs.Write.{entryOf, countedFields, countedPrograms, descriptionOf, imageFor, writeChecks, writtenBytes, writtenOf, bufferAfter, restarted}
+use Rattle.image.specs.Write.{entryOf, countedFields, countedPrograms, descriptionOf, imageFor, writtenOf, bufferAfter, restarted}
 use Rattle.image.proofs.Entries.{length-pad, pad-at, pad-past}
 use Rattle.image.proofs.Loaded.{loaded}
 use Rattle.image.proofs.Passed.{passed}
 use Rattle.image.proofs.Rewritten.{bytes-of-describe, describe-legal}
 use Rattle.image.proofs.RoundTrip.{legal-loads}
-use Rattle.image.proofs.Writes.{Ready, done, ready, number-exactly, image-length, written-all, all-written, stored-all}
+use Rattle.image.proofs.Writes.{Ready, done, ready, number-exactly, image-length, all-written}
 
 -- the numbers of a machine fit their types, as those of every machine that code holds
 pub record Fits (m : Machine) : Type 0 where

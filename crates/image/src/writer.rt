@@ -52,13 +52,7 @@ fn write_contents(out: &mut [u8], pages: u8, programs: u8)
 {
     put_entry(out, 0, 1, 18, 4);
     put_entry(out, 6, 2, 22, 4 * (pages as u16));
-    put_entry(
-        out,
-        12,
-        3,
-        22 + 4 * (pages as u16),
-        5 * (programs as u16),
-    );
+    put_entry(out, 12, 3, 22 + 4 * (pages as u16), 5 * (programs as u16));
 }
 
 // The body of kind 1, the shape.
@@ -200,8 +194,5 @@ pub fn write(machine: Machine, buf: &mut [u8]) -> Written
             ),
         };
     }
-    Written {
-        number,
-        count: 0,
-    }
+    Written { number, count: 0 }
 }

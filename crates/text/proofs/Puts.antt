@@ -3,19 +3,16 @@ use Prim.Native.Nat.{ℕ, suc, _+_, _/_, _%_, _≤_, _<_}
 use mathlib.Core.Path.{_≡_, refl, ap, sym, _∙_}
 use mathlib.Core.Bool.{Bool, true, false}
 use mathlib.Core.List.{List, [], _∷_, _++_}
-use native.Mathlib.Nat.{add-zero, add-suc, suc-add}
+use native.Mathlib.Nat.{add-zero, add-suc}
 use native.Mathlib.Numerals.{add-one}
 use native.Mathlib.Omega.{arith}
 use lib.Dec.{leb}
 use lib.ListN.{length, getD, set, drop, length-append}
 use lib.Seq.{sets, length-sets, drop-cons}
 use Rattle.rules.specs.Refusals.{pick}
+use Rattle.image.proofs.Stored.{sets-append}
 use Rattle.text.specs.Put.{Put}
 use Rattle.text.specs.Text.{leadingDigit, decimalOf, lineOf, linesFrom}
-
-sets-append : (l : List ℕ) (i : ℕ) (s t : List ℕ) → sets (sets l i s) (i + length s) t ≡ sets l i (s ++ t)
-sets-append l i [] t = rw add-zero
-sets-append l i (x ∷ s) t = rw (add-suc, ← suc-add) (sets-append (set l i x) (suc i) s t)
 
 pub put-none : (l : List ℕ) (at : ℕ) → Put l at [] l at
 put-none l at = record { stored = refl; next = sym (add-zero at) }

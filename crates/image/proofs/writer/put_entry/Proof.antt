@@ -4,7 +4,6 @@ use mathlib.Core.Path.{_≡_, _∙_}
 use borrow.Author.Needs.{needs}
 use native.Mathlib.Omega.{arith}
 use lib.ListN.{length-set}
-use lib.Seq.{length-sets}
 use Rattle.image.proofs.writer.put_entry.Statement.{statement}
 use Rattle.image.proofs.writer.put_entry.Tie as tie
 

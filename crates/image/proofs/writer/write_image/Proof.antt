@@ -1,7 +1,7 @@
 -- `image::writer::write_image` meets its contract: what each body writer stores in the part that it is lent is stored in the buffer at that
 -- offset (`sets-part`), and the parts together are the image (`stored-parts`).
 use Prim.Native.Nat.{_+_, _*_}
-use mathlib.Core.Path.{_≡_, sym, _∙_}
+use mathlib.Core.Path.{_≡_, _∙_}
 use borrow.Author.Needs.{needs}
 use native.Mathlib.Omega.{arith}
 use Rattle.machine.specs.Machine.{noProgram}
@@ -38,8 +38,8 @@ returns c =
     let whole = sets-part third (placing .program-place .result) (bodies programBytes (d .programs)) _ (programs .write-programs .ensures) in (
       c .program-place2 .ensures,
       whole
-      ∙ rw (paged, shaped, contents .write-contents .ensures, at)
-      (stored-parts d (a .programs) (a .buf .now) (length-pad 0 (2 * a .pages) (a .fields .now)) (length-pad noProgram (a .programs) (a .table))),
+          ∙ rw (paged, shaped, contents .write-contents .ensures, at)
+          (stored-parts d (a .programs) (a .buf .now) (length-pad 0 (2 * a .pages) (a .fields .now)) (length-pad noProgram (a .programs) (a .table))),
     )
 
 pub write-image-spec : {M : Type 1} → statement M

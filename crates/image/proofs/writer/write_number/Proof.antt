@@ -1,5 +1,5 @@
 -- `image::writer::write_number` meets its contract: each condition is the one of its number; a sound machine's counts are bytes.
-use mathlib.Core.Path.{_≡_, ap, sym, _∙_}
+use mathlib.Core.Path.{_≡_, sym, _∙_}
 use borrow.Author.Needs.{needs}
 use native.Mathlib.Omega.{arith}
 use Rattle.machine.proofs.Sound.{sound-facts}

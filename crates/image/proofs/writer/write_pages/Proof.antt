@@ -34,7 +34,7 @@ loop-again c =
       omega arith,
       putting .put-word .kept .0 ∙ l .inv .1,
       rw (putting .put-word .ensures, reading .read-field .ensures, ← pad-at 0 (start .args .count) fields (l .i) (omega arith))
-      (turn-body 2 word (λ w. refl) 0 all (l .out) (l .i) (omega (arith, length-pad 0 (start .args .count) fields)) ∙ l .inv .2),
+          (turn-body 2 word (λ w. refl) 0 all (l .out) (l .i) (omega (arith, length-pad 0 (start .args .count) fields)) ∙ l .inv .2),
     )
 
 returns : tie.Need-returns Inv-loop μ-loop

@@ -35,7 +35,7 @@ loop-again c =
       omega arith,
       putting .put-program .kept .0 ∙ l .inv .1,
       rw (putting .put-program .ensures, reading .read-program .ensures, ← pad-at noProgram (start .args .count) table (l .i) (omega arith))
-      (turn-body 5 programBytes (λ p. refl) noProgram all (l .out) (l .i) (omega (arith, length-pad noProgram (start .args .count) table)) ∙ l .inv .2),
+          (turn-body 5 programBytes (λ p. refl) noProgram all (l .out) (l .i) (omega (arith, length-pad noProgram (start .args .count) table)) ∙ l .inv .2),
     )
 
 returns : tie.Need-returns Inv-loop μ-loop
