@@ -64,3 +64,5 @@ speed:
 	@$(MAKE) --no-print-directory lib
 	@echo "comparing the bench with the plain C program .."
 	@tests/speed/run.sh target/staticlib
+	@echo "comparing the writer of images with the plain C program .."
+	@tests/speed/write.sh
