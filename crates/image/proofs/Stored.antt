@@ -8,6 +8,8 @@ use native.Mathlib.Omega.{arith}
 use lib.ListN.{length, getD, set, take, drop, length-drop, drop-of-length-le}
 use lib.Seq.{sets, take-all, drop-cons}
 use Rattle.image.specs.Bytes.{bodies}
+use Rattle.image.specs.Description.{pad}
+use Rattle.image.proofs.Entries.{length-pad, pad-at}
 
 pub sets-append : (l : List ℕ) (i : ℕ) (s t : List ℕ) → sets (sets l i s) (i + length s) t ≡ sets l i (s ++ t)
 sets-append l i [] t = rw add-zero
@@ -40,11 +42,17 @@ sets-part l at s part e =
     let long : length (drop at l) ≤ length l - at = simp length-drop (omega arith) in
     rw (e, take-all (length l - at) (drop at l) long, drop-of-length-le (drop at l) {i = length l - at} long, append-nil) (sets-from l at s)
 
--- a turn of a loop over bodies of one size: the body at i stored at its place, and those past it behind it, are the bodies from i on
-pub turn-body : {A : Type 0} (size : ℕ) (write : A → List ℕ) → ((x : A) → length (write x) ≡ size)
-    → (z : A) (l : List A) (out : List ℕ) (i : ℕ) → i < length l
-    → sets (sets out (size * i) (write (getD l i z))) (size * (i + 1)) (bodies write (drop (i + 1) l)) ≡ sets out (size * i) (bodies write (drop i l))
-turn-body size write sized z l out i h =
-    rw (drop-cons l i z h, add-one)
-    (sets-next out (size * i) (size * suc i) (write (getD l i z)) (bodies write (drop (suc i) l))
-    (omega (arith, mul-suc size i, sized (getD l i z))))
+-- a loop over bodies of one size, of a list in n places
+module _ {A : Type 0} (size : ℕ) (write : A → List ℕ) (sized : (x : A) → length (write x) ≡ size) (z : A) (n : ℕ) (l : List A) (i : ℕ) where
+  -- a turn: the body at i stored at its place, and those past it behind it, are the bodies from i on
+  pub turn-body : (out next : List ℕ) → i < n → next ≡ sets out (size * i) (write (getD l i z))
+      → sets next (size * (i + 1)) (bodies write (drop (i + 1) (pad n z l))) ≡ sets out (size * i) (bodies write (drop i (pad n z l)))
+  turn-body out next h e =
+      let all = pad n z l in
+      rw (e, ← pad-at z n l i h, drop-cons all i z (rw (length-pad z n l) h), add-one)
+      (sets-next out (size * i) (size * suc i) (write (getD all i z)) (bodies write (drop (suc i) all))
+      (omega (arith, mul-suc size i, sized (getD all i z))))
+
+  -- the end: no body is left
+  pub no-body : n ≤ i → bodies write (drop i (pad n z l)) ≡ []
+  no-body h = rw (drop-of-length-le (pad n z l) {i = i} (rw (length-pad z n l) h))

@@ -37,8 +37,11 @@ stored-parts d n buffer two-fields programs =
     ∙ sets-next (sets buffer 0 c) 18 22 s (f ++ p) refl
     ∙ sets-next buffer 0 18 c (s ++ (f ++ p)) refl)
 
--- RULES 5.14: how long the image of a machine is, sound or not
-pub image-length : (m : Machine) → length (imageFor m) ≡ 22 + 4 * m .pages + 5 * m .programs
+-- RULES 5.14: how many bytes the image of a machine has, sound or not
+abbrev pub size : Machine → ℕ
+size m = 22 + 4 * m .pages + 5 * m .programs
+
+pub image-length : (m : Machine) → length (imageFor m) ≡ size m
 unfolding descriptionOf
 image-length m =
     bytes-length (descriptionOf m) (length-pad 0 (2 * m .pages) (m .fields))
@@ -68,8 +71,8 @@ pub data Gives (m : Machine) (room : ℕ) : ℕ → Type 0 where
   other-runs : isSound m ≡ true → (m .current ≡ 0 → ⊥) → Gives m room 26
   mode-saved : isSound m ≡ true → (m .depth ≡ 0 → ⊥) → Gives m room 26
   flag-set : isSound m ≡ true → m .registers .pending ≡ true → Gives m room 26
-  too-short : Ready m → room < 22 + 4 * m .pages + 5 * m .programs → Gives m room 27
-  done : Ready m → 22 + 4 * m .pages + 5 * m .programs ≤ room → Gives m room 0
+  too-short : Ready m → room < size m → Gives m room 27
+  done : Ready m → size m ≤ room → Gives m room 0
 
 -- where the last, or the second of three tests fails, the others do not matter
 last-fails : (a : Bool) → a && false ≡ false
@@ -125,10 +128,10 @@ module _ (m : Machine) (room : ℕ) where
   given (done r h) = by-tests true true false (r .sound) (rests r) (le-ltb room (length (imageFor m)) (omega (arith, image-length m)))
 
   -- what is known where the number is 0
-  pub ready : first (writeChecks m room) ≡ 0 → Ready m × (22 + 4 * m .pages + 5 * m .programs ≤ room)
+  pub ready : first (writeChecks m room) ≡ 0 → Ready m × (size m ≤ room)
   ready accepted = of (first (writeChecks m room)) gives accepted
     where
-      of : (n : ℕ) → Gives m room n → n ≡ 0 → Ready m × (22 + 4 * m .pages + 5 * m .programs ≤ room)
+      of : (n : ℕ) → Gives m room n → n ≡ 0 → Ready m × (size m ≤ room)
       of n (not-sound h) e = absurd (omega arith)
       of n (other-runs s h) e = absurd (omega arith)
       of n (mode-saved s h) e = absurd (omega arith)
@@ -148,7 +151,7 @@ module _ (m : Machine) (buffer : List ℕ) (accepted : first (writeChecks m (len
   all-written = rw accepted
 
   -- the number, and how many bytes
-  pub written-all : writtenOf m (length buffer) ≡ record { number = 0; count = 22 + 4 * m .pages + 5 * m .programs }
+  pub written-all : writtenOf m (length buffer) ≡ record { number = 0; count = size m }
   unfolding writtenOf
   written-all = rw (accepted, all-written, image-length m)
 

@@ -1,16 +1,15 @@
 -- `image::writer::write_programs` meets its contract. The loop's invariant: the programs that are left, stored from here on, give the bytes that are
 -- promised. The measure is how many are left.
 use Prim.Native.Nat.{_*_, _-_, _≤_}
-use mathlib.Core.Path.{_≡_, refl, _∙_}
+use mathlib.Core.Path.{_≡_, refl, ap, _∙_}
 use borrow.Author.Needs.{needs}
 use native.Mathlib.Omega.{arith}
-use lib.ListN.{length, drop, drop-of-length-le}
+use lib.ListN.{length, drop}
 use lib.Seq.{sets}
 use Rattle.machine.specs.Machine.{noProgram}
 use Rattle.image.specs.Bytes.{bodies}
 use Rattle.image.specs.Description.{programBytes, pad}
-use Rattle.image.proofs.Entries.{length-pad, pad-at}
-use Rattle.image.proofs.Stored.{turn-body}
+use Rattle.image.proofs.Stored.{turn-body, no-body}
 use Rattle.image.proofs.writer.write_programs.Statement.{statement}
 use Rattle.image.proofs.writer.write_programs.Tie as tie
 
@@ -30,21 +29,17 @@ loop-again c =
     let reading : tie.After-read-program Inv-loop μ-loop = (search) in
     let putting : tie.After-put-program Inv-loop μ-loop = (search) in
     let l = looping .loop in
-    let table = start .args .table in
-    let all = pad (start .args .count) noProgram table in (
+    let stored = putting .put-program .ensures ∙ ap (λ x. sets (l .out) (5 * l .i) (programBytes x)) (reading .read-program .ensures) in (
       omega arith,
       putting .put-program .kept .0 ∙ l .inv .1,
-      rw (putting .put-program .ensures, reading .read-program .ensures, ← pad-at noProgram (start .args .count) table (l .i) (omega arith))
-          (turn-body 5 programBytes (λ p. refl) noProgram all (l .out) (l .i) (omega (arith, length-pad noProgram (start .args .count) table)) ∙ l .inv .2),
+      turn-body 5 programBytes (λ x. refl) noProgram (start .args .count) (start .args .table) (l .i) (l .out) _ (omega arith) stored ∙ l .inv .2,
     )
 
 returns : tie.Need-returns Inv-loop μ-loop
 returns c =
     let start : tie.Start Inv-loop μ-loop = (search) in
     let l = c .before .loop in
-    let all = pad (start .args .count) noProgram (start .args .table) in
-    let none = drop-of-length-le all {i = l .i} (omega (arith, length-pad noProgram (start .args .count) (start .args .table))) in
-    rw none at (l .inv .2)
+    rw (no-body 5 programBytes (λ x. refl) noProgram (start .args .count) (start .args .table) (l .i) (omega arith)) at (l .inv .2)
 
 pub write-programs-spec : {M : Type 1} → statement M
 write-programs-spec =
