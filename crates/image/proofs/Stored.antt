@@ -1,12 +1,12 @@
 -- Bytes stored in a buffer one after another are their join stored at once, also where a part of the buffer was lent for some of them.
 use Prim.Native.Nat.{ℕ, zero, suc, _+_, _*_, _-_, _≤_, _<_}
-use mathlib.Core.Path.{_≡_, refl, ap}
+use mathlib.Core.Path.{_≡_, refl, ap, sym, _∙_}
 use mathlib.Core.List.{List, [], _∷_, _++_, append-nil}
-use native.Mathlib.Nat.{add-zero, add-suc, suc-add, mul-suc}
+use native.Mathlib.Nat.{add-zero, add-suc, suc-add, mul-zero, mul-suc}
 use native.Mathlib.Numerals.{add-one}
 use native.Mathlib.Omega.{arith}
 use lib.ListN.{length, getD, set, take, drop, length-drop, drop-of-length-le}
-use lib.Seq.{sets, take-all, drop-cons}
+use lib.Seq.{sets, length-sets, take-all, drop-cons}
 use Rattle.image.specs.Bytes.{bodies}
 use Rattle.image.specs.Description.{pad}
 use Rattle.image.proofs.Entries.{length-pad, pad-at}
@@ -42,17 +42,32 @@ sets-part l at s part e =
     let long : length (drop at l) ≤ length l - at = simp length-drop (omega arith) in
     rw (e, take-all (length l - at) (drop at l) long, drop-of-length-le (drop at l) {i = length l - at} long, append-nil) (sets-from l at s)
 
--- a loop over bodies of one size, of a list in n places
-module _ {A : Type 0} (size : ℕ) (write : A → List ℕ) (sized : (x : A) → length (write x) ≡ size) (z : A) (n : ℕ) (l : List A) (i : ℕ) where
-  -- a turn: the body at i stored at its place, and those past it behind it, are the bodies from i on
-  pub turn-body : (out next : List ℕ) → i < n → next ≡ sets out (size * i) (write (getD l i z))
-      → sets next (size * (i + 1)) (bodies write (drop (i + 1) (pad n z l))) ≡ sets out (size * i) (bodies write (drop i (pad n z l)))
-  turn-body out next h e =
-      let all = pad n z l in
-      rw (e, ← pad-at z n l i h, drop-cons all i z (rw (length-pad z n l) h), add-one)
-      (sets-next out (size * i) (size * suc i) (write (getD all i z)) (bodies write (drop (suc i) all))
-      (omega (arith, mul-suc size i, sized (getD all i z))))
+-- a loop that stores the bodies of a list in n places, one after another, each of one size
+module _ {A : Type 0} (size : ℕ) (write : A → List ℕ) (z : A) (n : ℕ) (l : List A) (start : List ℕ) where
+  -- what holds before body i: the bodies that are left, stored from here on, give the buffer that is promised
+  pub record Left (out : List ℕ) (i : ℕ) : Type 0 where
+    pub within : i ≤ n
+    pub long : length out ≡ length start
+    pub rest : sets out (size * i) (bodies write (drop i (pad n z l))) ≡ sets start 0 (bodies write (pad n z l))
 
-  -- the end: no body is left
-  pub no-body : n ≤ i → bodies write (drop i (pad n z l)) ≡ []
-  no-body h = rw (drop-of-length-le (pad n z l) {i = i} (rw (length-pad z n l) h))
+  pub left-all : Left start 0
+  left-all = record { within = omega arith; long = refl; rest = rw mul-zero }
+
+  -- body i was stored at its place
+  pub left-next : ((x : A) → length (write x) ≡ size) → (out next : List ℕ) (i : ℕ) → Left out i → i < n
+      → next ≡ sets out (size * i) (write (getD l i z)) → Left next (i + 1)
+  left-next sized out next i left h e =
+      let all = pad n z l in
+      record {
+        within = omega arith;
+        long = ap length e ∙ length-sets out (size * i) (write (getD l i z)) ∙ left .long;
+        rest =
+            rw (e, ← pad-at z n l i h, add-one)
+            (sets-next out (size * i) (size * suc i) (write (getD all i z)) (bodies write (drop (suc i) all))
+            (omega (arith, mul-suc size i, sized (getD all i z)))
+            ∙ ap (λ (t : List A). sets out (size * i) (bodies write t)) (sym (drop-cons all i z (rw (length-pad z n l) h)))
+            ∙ left .rest);
+      }
+
+  pub left-none : (out : List ℕ) (i : ℕ) → Left out i → n ≤ i → out ≡ sets start 0 (bodies write (pad n z l))
+  left-none out i left h = rw (drop-of-length-le (pad n z l) {i = i} (rw (length-pad z n l) h)) at (left .rest)
