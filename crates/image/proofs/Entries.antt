@@ -13,6 +13,14 @@ module _ {A : Type 0} (size : ℕ) (read : ℕ → A) where
   length-entries at zero = refl
   length-entries at (suc n) = ap suc (length-entries (size + at) n)
 
+  -- which body is which: body i is read at its own place
+  pub entry-at : (z : A) (at n i : ℕ) → i < n → getD (entries size read at n) i z ≡ read (at + size * i)
+  entry-at z at zero i h = absurd (omega arith)
+  entry-at z at (suc n) zero h = let e : at + size * 0 ≡ at = omega arith in rw e
+  entry-at z at (suc n) (suc i) h =
+      let e : at + size * suc i ≡ size + at + size * i = omega (arith, mul-suc size i) in
+      rw e (entry-at z (size + at) n i (omega arith))
+
   -- what holds of every body, and of what stands past the last
   pub each-entry : (P : A → Type 0) (z : A) → P z → ((at : ℕ) → P (read at))
       → (at n i : ℕ) → P (getD (entries size read at n) i z)

@@ -1,5 +1,5 @@
 -- What is written is read again: the bytes of a legal description say that description, and nothing refuses them.
-use Prim.Native.Nat.{ℕ, _+_, _*_}
+use Prim.Native.Nat.{ℕ, _+_, _*_, _^_, _≤_}
 use mathlib.Core.Path.{_≡_, refl, ap, sym, _∙_}
 use mathlib.Core.Bool.{true}
 use mathlib.Core.List.{List, [], _∷_, _++_, map, map-id, append-assoc, append-nil}
@@ -100,7 +100,31 @@ module _ (d : Description) (two-fields : length (d .fields) ≡ 2 * d .pages) wh
       let p = bodies programBytes (d .programs) in
       rw (split d, length-append (upTo d) (p ++ []), up-to-length, append-nil p, length-bodies 5 programBytes (λ x. refl) (d .programs))
 
-module _ (d : Description) (legal : Legal d) where
+-- what reading back asks of a description: its counts are in their ranges. That its numbers have 16 bits it does not ask.
+pub record Shaped (d : Description) : Type 0 where
+  pub pages-least : 1 ≤ d .pages
+  pub pages-most : d .pages ≤ 128
+  pub exponent-least : 5 ≤ d .exponent
+  pub exponent-most : d .exponent ≤ 12
+  pub memory-most : d .pages * 2 ^ d .exponent ≤ 65536
+  pub programs-least : 1 ≤ length (d .programs)
+  pub programs-most : length (d .programs) ≤ 8
+  pub two-fields : length (d .fields) ≡ 2 * d .pages
+
+pub shaped : (d : Description) → Legal d → Shaped d
+shaped d legal =
+    record {
+      pages-least = legal .pages-least;
+      pages-most = legal .pages-most;
+      exponent-least = legal .exponent-least;
+      exponent-most = legal .exponent-most;
+      memory-most = legal .memory-most;
+      programs-least = legal .programs-least;
+      programs-most = legal .programs-most;
+      two-fields = legal .two-fields;
+    }
+
+module _ (d : Description) (legal : Shaped d) where
   fields-read : entries 2 (fieldAt (bytesOf d)) 22 (2 * d .pages) ≡ d .fields
   unfolding bytesOf
   fields-read =

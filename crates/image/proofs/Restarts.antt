@@ -1,46 +1,31 @@
 -- Writing and loading are each other's way back: what was written loads to the machine it was written from, as far as its places are counted,
 -- and an image that was loaded is written again byte for byte.
 use Prim.Native.Nat.{ℕ, zero, suc, _+_, _*_, _≤_, _<_}
-use mathlib.Core.Path.{_≡_, refl, ap, sym, _∙_}
-use mathlib.Core.Bool.{Bool, false}
+use mathlib.Core.Path.{_≡_, refl, ap, sym, _∙_, subst}
+use mathlib.Core.Bool.{Bool, true, false}
 use mathlib.Core.List.{List, [], _∷_, _++_}
 use native.Mathlib.Omega.{arith}
 use lib.ListN.{length, getD, take, drop, replicate}
 use lib.Seq.{take-at, getD-drop}
 use Rattle.rules.specs.declared.registers.Registers.{Registers}
-use Rattle.machine.specs.Machine.{noProgram}
+use Rattle.machine.specs.Machine.{isSound, noProgram}
 use Rattle.machine.specs.declared.record.Machine.{Machine}
 use Rattle.machine.specs.declared.record.Program.{Program}
 use Rattle.machine.proofs.Sound.{sound-facts}
 use Rattle.machine.proofs.Written.{whole}
-use Rattle.image.specs.Bytes.{Bytes}
+use Rattle.image.specs.Bytes.{Bytes, wordAt}
 use Rattle.image.specs.Description.{Description, Legal, pad, liveOf, bytesOf, machineOf}
-use Rattle.image.specs.Load.{describe, loadOf}
+use Rattle.image.specs.Load.{describe, loadOf, fieldAt, pageCount, programAt, programCount}
 use Rattle.image.specs.Write.{entryOf, countedFields, countedPrograms, descriptionOf, imageFor, writtenOf, bufferAfter, restarted}
-use Rattle.image.proofs.Entries.{length-pad, pad-at, pad-past}
+use Rattle.image.proofs.Entries.{entry-at, length-entries, length-pad, pad-at, pad-past}
 use Rattle.image.proofs.Loaded.{loaded}
 use Rattle.image.proofs.Passed.{passed}
+use Rattle.image.proofs.Reread.{Shaped, describe-bytes}
 use Rattle.image.proofs.Rewritten.{bytes-of-describe, describe-legal}
-use Rattle.image.proofs.RoundTrip.{legal-loads}
-use Rattle.image.proofs.Writes.{Ready, done, ready, number-exactly, image-length, all-written}
-
--- the numbers of a machine fit their types, as those of every machine that code holds
-pub record Fits (m : Machine) : Type 0 where
-  pub fields-fit : (i : ℕ) → getD (m .fields) i 0 < 65536
-  pub context-fits : m .registers .context < 65536
-  pub mask-fits : m .registers .mask < 65536
-  pub contexts-fit : (i : ℕ) → getD (m .table) i noProgram .context < 65536
-  pub masks-fit : (i : ℕ) → getD (m .table) i noProgram .mask < 65536
+use Rattle.image.proofs.RoundTrip.{shaped-loads}
+use Rattle.image.proofs.Writes.{Ready, too-short, done, ready, number-exactly, size, image-length, image-written, refused-keeps}
 
 -- ---- lists in so many places
-
--- what holds of every member of a list, and past its end, holds of the list in n places
-each-padded : {A : Type 0} (P : A → Type 0) (z : A) → P z → (n : ℕ) (l : List A) → ((i : ℕ) → P (getD l i z)) → (i : ℕ) → P (getD (pad n z l) i z)
-each-padded P z none zero l some i = none
-each-padded P z none (suc n) [] some zero = none
-each-padded P z none (suc n) [] some (suc i) = each-padded P z none n [] some i
-each-padded P z none (suc n) (x ∷ l) some zero = some 0
-each-padded P z none (suc n) (x ∷ l) some (suc i) = each-padded P z none n l (λ k. some (suc k)) i
 
 -- as many places as a list has, taken out of more places that it was put into, are the list
 pad-back : {A : Type 0} (z : A) (k : ℕ) (l : List A) → length l ≤ k → pad (length l) z (pad k z l) ≡ l
@@ -50,64 +35,97 @@ pad-back z (suc k) (x ∷ l) h = ap (λ (t : List _). x ∷ t) (pad-back z k l (
 
 -- ---- from a machine to its image and back
 
-module _ (m : Machine) (fits : Fits m) (ready : Ready m) where
-  entry-each : (P : Program → Type 0) → P (entryOf (m .registers)) → ((i : ℕ) → P (getD (m .table) i noProgram))
-      → (i : ℕ) → P (getD (entryOf (m .registers) ∷ drop 1 (m .table)) i noProgram)
-  entry-each P live stored zero = live
-  entry-each P live stored (suc i) = rw (getD-drop 1 (m .table) i noProgram) (stored (1 + i))
+-- past the first place, a stored entry stands where it stood
+later : (x : Program) (l : List Program) (i : ℕ) → 1 ≤ i → getD (x ∷ drop 1 l) i noProgram ≡ getD l i noProgram
+later x l zero h = absurd (omega arith)
+later x l (suc i) h = let e : 1 + i ≡ suc i = omega arith in rw (getD-drop 1 l i noProgram, e)
 
-  described : Legal (descriptionOf m)
-  unfolding descriptionOf
-  described =
-      let s = sound-facts m (ready .sound) in
-      let count = length-pad noProgram (m .programs) (entryOf (m .registers) ∷ drop 1 (m .table)) in
-      record {
-        pages-least = s .pages-least;
-        pages-most = s .pages-most;
-        exponent-least = s .exponent-least;
-        exponent-most = s .exponent-most;
-        memory-most = s .memory-most;
-        programs-least = omega (arith, s .programs-least);
-        programs-most = omega (arith, s .programs-most);
-        two-fields = length-pad 0 (2 * m .pages) (m .fields);
-        fields-fit = each-padded (λ w. w < 65536) 0 (omega arith) (2 * m .pages) (m .fields) (fits .fields-fit);
-        contexts-fit =
-            each-padded (λ p. p .context < 65536) noProgram (omega arith) (m .programs) _
-            (entry-each (λ p. p .context < 65536) (fits .context-fits) (fits .contexts-fit));
-        masks-fit =
-            each-padded (λ p. p .mask < 65536) noProgram (omega arith) (m .programs) _
-            (entry-each (λ p. p .mask < 65536) (fits .mask-fits) (fits .masks-fit));
-      }
+shaped-machine : (m : Machine) → isSound m ≡ true → Shaped (descriptionOf m)
+unfolding descriptionOf
+shaped-machine m sound =
+    let s = sound-facts m sound in
+    let count = length-pad noProgram (m .programs) (entryOf (m .registers) ∷ drop 1 (m .table)) in
+    record {
+      pages-least = s .pages-least;
+      pages-most = s .pages-most;
+      exponent-least = s .exponent-least;
+      exponent-most = s .exponent-most;
+      memory-most = s .memory-most;
+      programs-least = omega (arith, s .programs-least);
+      programs-most = omega (arith, s .programs-most);
+      two-fields = length-pad 0 (2 * m .pages) (m .fields);
+    }
+
+module _ (m : Machine) (sound : isSound m ≡ true) where
+  abbrev read : describe (imageFor m) ≡ descriptionOf m
+  read = describe-bytes (descriptionOf m) (shaped-machine m sound)
+
+  pages-read : pageCount (imageFor m) ≡ m .pages
+  unfolding describe descriptionOf
+  pages-read = ap (λ (d : Description). d .pages) read
+
+  -- RULES 5.5, 5.14: where each field stands in the image
+  pub field-written : (i : ℕ) → i < 2 * m .pages → wordAt (imageFor m) (22 + 2 * i) ≡ getD (m .fields) i 0
+  unfolding describe descriptionOf
+  field-written i h =
+      sym (entry-at 2 (fieldAt (imageFor m)) 0 22 (2 * pageCount (imageFor m)) i (omega (arith, pages-read)))
+      ∙ ap (λ (d : Description). getD (d .fields) i 0) read
+      ∙ pad-at 0 (2 * m .pages) (m .fields) i h
+
+  -- RULES 5.6, 5.14: where each program stands in it
+  program-read : (i : ℕ) → i < m .programs
+      → programAt (imageFor m) (22 + 4 * m .pages + 5 * i) ≡ getD (entryOf (m .registers) ∷ drop 1 (m .table)) i noProgram
+  unfolding describe descriptionOf
+  program-read i h =
+      let start = 22 + 4 * pageCount (imageFor m) in
+      let n : programCount (imageFor m) ≡ m .programs =
+      sym (length-entries 5 (programAt (imageFor m)) start (programCount (imageFor m)))
+      ∙ ap (λ (d : Description). length (d .programs)) read
+      ∙ length-pad noProgram (m .programs) (entryOf (m .registers) ∷ drop 1 (m .table)) in
+      subst (λ (p : ℕ). programAt (imageFor m) (22 + 4 * p + 5 * i) ≡ getD (entryOf (m .registers) ∷ drop 1 (m .table)) i noProgram) pages-read
+      (sym (entry-at 5 (programAt (imageFor m)) noProgram start (programCount (imageFor m)) i (omega (arith, n)))
+      ∙ ap (λ (d : Description). getD (d .programs) i noProgram) read
+      ∙ pad-at noProgram (m .programs) (entryOf (m .registers) ∷ drop 1 (m .table)) i h)
+
+  pub live-written :
+      programAt (imageFor m) (22 + 4 * m .pages)
+      ≡ record { context = m .registers .context; mask = m .registers .mask; mode = m .registers .mode }
+  live-written =
+      let first : 22 + 4 * m .pages + 5 * 0 ≡ 22 + 4 * m .pages = omega arith in
+      rw first at (program-read 0 (sound-facts m sound .programs-least))
+
+  pub program-written : (i : ℕ) → 1 ≤ i → i < m .programs
+      → programAt (imageFor m) (22 + 4 * m .pages + 5 * i) ≡ getD (m .table) i noProgram
+  program-written i h k = program-read i k ∙ later (entryOf (m .registers)) (m .table) i h
 
 -- the flag clear, a program's entry made of the live registers gives them back
 live-again : (r : Registers) → r .pending ≡ false → liveOf (entryOf r) ≡ r
 live-again r clear = rw clear
 
--- machines that are equal in the four parts which differ by name alone
+-- machines that differ in the names of two parts alone
 same-parts : (pages exponent : ℕ) (fields : List ℕ) (saved : List Bool) (table : List Program)
-    → {live live′ : Registers} {depth depth′ programs programs′ current current′ : ℕ}
-    → live ≡ live′ → depth ≡ depth′ → programs ≡ programs′ → current ≡ current′
-    → whole pages exponent fields live depth saved programs current table ≡ whole pages exponent fields live′ depth′ saved programs′ current′ table
-same-parts pages exponent fields saved table e f g h = rw (e, f, g, h)
+    → {live live′ : Registers} {programs programs′ : ℕ} → live ≡ live′ → programs ≡ programs′
+    → whole pages exponent fields live 0 saved programs 0 table ≡ whole pages exponent fields live′ 0 saved programs′ 0 table
+same-parts pages exponent fields saved table e f = rw (e, f)
 
 started : (m : Machine) → Ready m → machineOf (descriptionOf m) ≡ restarted m
 unfolding machineOf descriptionOf restarted
-started m ready =
+started m can =
     let all = entryOf (m .registers) ∷ drop 1 (m .table) in
-    let least = sound-facts m (ready .sound) .programs-least in
+    let least = sound-facts m (can .sound) .programs-least in
     same-parts (m .pages) (m .exponent) (pad 256 0 (countedFields m)) (replicate 8 false) (pad 8 noProgram (countedPrograms m))
-    (ap liveOf (pad-at noProgram (m .programs) all 0 least) ∙ live-again (m .registers) (ready .flag-clear))
-    (sym (ready .no-depth)) (length-pad noProgram (m .programs) all) (sym (ready .runs-first))
+    (ap liveOf (pad-at noProgram (m .programs) all 0 least) ∙ live-again (m .registers) (can .flag-clear))
+    (length-pad noProgram (m .programs) all)
 
 -- RULES 5.17: loading what was written gives 0 and the machine that the image starts
-pub written-loads : (m : Machine) → Fits m → (buffer : List ℕ) → writtenOf m (length buffer) .number ≡ 0
+pub written-loads : (m : Machine) (buffer : List ℕ) → writtenOf m (length buffer) .number ≡ 0
     → loadOf (take (writtenOf m (length buffer) .count) (bufferAfter m buffer)) ≡ record { number = 0; machine = restarted m }
 unfolding writtenOf bufferAfter
-written-loads m fits buffer accepted =
+written-loads m buffer accepted =
     let image = imageFor m in
     let can = ready m (length buffer) accepted .0 in
-    rw (all-written m buffer accepted, take-at image (drop (length image) buffer) (length image) refl)
-    (legal-loads (descriptionOf m) (described m fits can) ∙ ap (λ (n : Machine). record { number = 0; machine = n }) (started m can))
+    rw (image-written m buffer accepted, take-at image (drop (length image) buffer) (length image) refl)
+    (shaped-loads (descriptionOf m) (shaped-machine m (can .sound)) ∙ ap (λ (n : Machine). record { number = 0; machine = n }) (started m can))
 
 -- RULES 5.17: that machine by its places: what is counted is as it was, program 0's entry is the live registers, and all else is empty
 pub record Restarts (m r : Machine) : Type 0 where
@@ -120,14 +138,10 @@ pub record Restarts (m r : Machine) : Type 0 where
   pub no-mode : (i : ℕ) → getD (r .saved) i false ≡ false
   pub programs : r .programs ≡ m .programs
   pub runs-first : r .current ≡ 0
-  pub first-entry : getD (r .table) 0 noProgram ≡ entryOf (m .registers)
+  pub first-entry :
+      getD (r .table) 0 noProgram ≡ record { context = m .registers .context; mask = m .registers .mask; mode = m .registers .mode }
   pub entry-kept : (i : ℕ) → 1 ≤ i → i < m .programs → getD (r .table) i noProgram ≡ getD (m .table) i noProgram
   pub no-entry : (i : ℕ) → m .programs ≤ i → getD (r .table) i noProgram ≡ noProgram
-
--- past the first place, a stored entry stands where it stood
-later : (x : Program) (l : List Program) (i : ℕ) → 1 ≤ i → getD (x ∷ drop 1 l) i noProgram ≡ getD l i noProgram
-later x l zero h = absurd (omega arith)
-later x l (suc i) h = let e : 1 + i ≡ suc i = omega arith in rw (getD-drop 1 l i noProgram, e)
 
 pub restarts : (m : Machine) (room : ℕ) → writtenOf m room .number ≡ 0 → Restarts m (restarted m)
 unfolding restarted writtenOf
@@ -143,10 +157,10 @@ restarts m room accepted =
       field-kept = λ i h. pad-at 0 256 (countedFields m) i (omega (arith, s .pages-most)) ∙ pad-at 0 (2 * m .pages) (m .fields) i h;
       no-field = λ i h. pad-past 0 256 (countedFields m) i (omega (arith, fields));
       registers = refl;
-      no-depth = can .no-depth;
+      no-depth = refl;
       no-mode = λ i. pad-past false 8 [] i (omega arith);
       programs = refl;
-      runs-first = can .runs-first;
+      runs-first = refl;
       first-entry = pad-at noProgram 8 (countedPrograms m) 0 (omega arith) ∙ pad-at noProgram (m .programs) all 0 (s .programs-least);
       entry-kept = λ i h k.
           pad-at noProgram 8 (countedPrograms m) i (omega (arith, s .programs-most))
@@ -171,23 +185,44 @@ redescribed d legal =
     rw (← legal .two-fields) (pad-back 0 256 (d .fields) (omega (arith, legal .two-fields, legal .pages-most))) in
     rw (fields, programs-back (d .programs) (legal .programs-least) (legal .programs-most))
 
--- a machine whose image is known is written as that image
-written-as : (m : Machine) (s buffer : List ℕ) → Ready m → imageFor m ≡ s → length s ≤ length buffer
-    → (writtenOf m (length buffer) ≡ record { number = 0; count = length s }) × (bufferAfter m buffer ≡ s ++ drop (length s) buffer)
-unfolding bufferAfter writtenOf
-written-as m s buffer can image room =
-    let accepted = number-exactly m (length buffer) 0 .1 (done can (omega (arith, image-length m, ap length image))) in
-    let all = all-written m buffer accepted ∙ image in
-    (rw (accepted, all), rw all)
+-- a machine that can be written and whose image is known
+module _ (m : Machine) (s buffer : List ℕ) (can : Ready m) (image : imageFor m ≡ s) where
+  long : length s ≡ size m
+  long = ap length (sym image) ∙ image-length m
 
--- RULES 5.18: an image that was loaded is written again, byte for byte
-pub loaded-writes : (s : List ℕ) → Bytes s → loadOf s .number ≡ 0 → (buffer : List ℕ) → length s ≤ length buffer
+  written-as : length s ≤ length buffer
+      → (writtenOf m (length buffer) ≡ record { number = 0; count = length s }) × (bufferAfter m buffer ≡ s ++ drop (length s) buffer)
+  unfolding bufferAfter writtenOf
+  written-as room =
+      let accepted = number-exactly m (length buffer) 0 .1 (done can (omega (arith, long))) in
+      let all = image-written m buffer accepted ∙ image in
+      (rw (accepted, all), rw all)
+
+  short-of : length buffer < length s → (writtenOf m (length buffer) ≡ record { number = 27; count = 0 }) × (bufferAfter m buffer ≡ buffer)
+  unfolding writtenOf
+  short-of room =
+      let short = number-exactly m (length buffer) 27 .1 (too-short can (omega (arith, long))) in
+      let kept = refused-keeps m buffer (λ zero. absurd (omega (arith, short, zero))) in
+      (rw (short, kept .0), kept .1)
+
+-- RULES 5.18: an image that was loaded is written again, byte for byte, and only room can be missing
+pub loaded-writes : (s : List ℕ) → Bytes s → loadOf s .number ≡ 0 → (buffer : List ℕ)
+    → (length s ≤ length buffer
     → (writtenOf (loadOf s .machine) (length buffer) ≡ record { number = 0; count = length s })
-    × (bufferAfter (loadOf s .machine) buffer ≡ s ++ drop (length s) buffer)
+    × (bufferAfter (loadOf s .machine) buffer ≡ s ++ drop (length s) buffer))
+    × (length buffer < length s
+    → (writtenOf (loadOf s .machine) (length buffer) ≡ record { number = 27; count = 0 }) × (bufferAfter (loadOf s .machine) buffer ≡ buffer))
 unfolding loadOf
-loaded-writes s bytes loads buffer room =
+loaded-writes s bytes loads buffer =
     let p = passed s loads in
     let l = loaded s loads in
     let m = machineOf (describe s) in
-    let can : Ready m = record { sound = rw loads at (l .sound); runs-first = rw loads at (l .runs-first); no-depth = rw loads at (l .no-depth); flag-clear = rw loads at (l .flag-clear) } in
-    rw loads (written-as m s buffer can (ap bytesOf (redescribed (describe s) (describe-legal s bytes p)) ∙ bytes-of-describe s bytes p) room)
+    let can : Ready m =
+    record {
+      sound = rw loads at (l .sound);
+      runs-first = rw loads at (l .runs-first);
+      no-depth = rw loads at (l .no-depth);
+      flag-clear = rw loads at (l .flag-clear);
+    } in
+    let image = ap bytesOf (redescribed (describe s) (describe-legal s bytes p)) ∙ bytes-of-describe s bytes p in
+    rw loads (written-as m s buffer can image, short-of m s buffer can image)

@@ -25,6 +25,10 @@ busy current depth mode pending =
     whole 2 6 (0x1234 ∷ 0x5678 ∷ 0x9ABC ∷ 0xDEF0 ∷ replicate 252 0x2222) (live 0x0102 0x0304 mode pending) depth (replicate 8 true) 2 current
     (stored 0xAAAA 0xBBBB User ∷ stored 0x0506 0x0708 User ∷ replicate 6 (stored 0xCCCC 0xDDDD Privileged))
 
+-- every number zero, every mode user, the flag clear
+abbrev nothing : Machine
+nothing = whole 0 0 (replicate 256 0) (live 0 0 User false) 0 (replicate 8 false) 0 0 (replicate 8 (stored 0 0 User))
+
 abbrev node : Machine
 node = busy 0 0 Privileged false
 
@@ -71,11 +75,15 @@ pub refused-kept :
 unfolding writtenOf bufferAfter writtenBytes writeChecks descriptionOf bytesOf isSound
 refused-kept = (refl, refl)
 
--- an unsound machine that is at rest, one that is not, and one in too short a buffer; then each reason for 26 alone, two and all three of
+-- machines that are not sound: the all-zero one and one of exponent 4, both at rest, in a buffer long enough and in none; those that are not at rest
+-- either; then each reason for 26 alone, two and all three of
 -- them, each in a buffer long enough and in none; then none of them
 pub write-order :
     map (λ (row : Machine × ℕ). writtenOf (row .0) (row .1) .number)
-    ((busy 0 9 User false, 40)
+    ((nothing, 40)
+    ∷ (nothing, 0)
+    ∷ (whole 2 4 (replicate 256 0) (live 1 1 User false) 0 (replicate 8 false) 2 0 (replicate 8 (stored 1 1 User)), 40)
+    ∷ (busy 0 9 User false, 40)
     ∷ (busy 2 0 User false, 40)
     ∷ (busy 0 0 Privileged true, 40)
     ∷ (busy 0 0 Privileged true, 39)
@@ -97,7 +105,7 @@ pub write-order :
     ∷ (busy 0 0 User false, 39)
     ∷ (busy 0 0 User false, 0)
     ∷ [])
-    ≡ 1 ∷ 1 ∷ 1 ∷ 1 ∷ 1 ∷ 26 ∷ 26 ∷ 26 ∷ 26 ∷ 26 ∷ 26 ∷ 26 ∷ 26 ∷ 26 ∷ 26 ∷ 26 ∷ 26 ∷ 0 ∷ 0 ∷ 27 ∷ 27 ∷ []
+    ≡ 1 ∷ 1 ∷ 1 ∷ 1 ∷ 1 ∷ 1 ∷ 1 ∷ 1 ∷ 26 ∷ 26 ∷ 26 ∷ 26 ∷ 26 ∷ 26 ∷ 26 ∷ 26 ∷ 26 ∷ 26 ∷ 26 ∷ 26 ∷ 0 ∷ 0 ∷ 27 ∷ 27 ∷ []
 unfolding writtenOf writeChecks descriptionOf bytesOf isSound
 write-order = refl
 
@@ -109,20 +117,20 @@ pub node-restarted :
 unfolding restarted
 node-restarted = refl
 
--- an image longer than 255 bytes, from a machine whose live registers are not program 0's stored ones; one page, one program; and a machine of
--- which a list is shorter than its count, which code cannot hold, is written with zeros
-abbrev long-node : ℕ → Machine
-long-node pages =
-    whole pages 10 (0x1234 ∷ 0x5678 ∷ 0x9ABC ∷ 0xDEF0 ∷ (replicate 122 0 ++ (0xFEDC ∷ 0xBA98 ∷ replicate 128 0xFFFF))) (live 0x0102 0x0304 Privileged false)
-    0 (replicate 8 true) 8 0
+-- an image longer than 255 bytes, from a machine whose live registers are not program 0's stored ones
+abbrev long-node : Machine
+long-node =
+    whole 64 10 (0x1234 ∷ 0x5678 ∷ 0x9ABC ∷ 0xDEF0 ∷ (replicate 122 0 ++ (0xFEDC ∷ 0xBA98 ∷ replicate 128 0xFFFF))) (live 0x0102 0x0304 Privileged false) 0
+    (replicate 8 true) 8 0
     (stored 0x1111 0x2222 User ∷ stored 0x0506 0x0708 User ∷ stored 0x0009 0x0A00 Privileged
     ∷ stored 0 0 User ∷ stored 0 0 User ∷ stored 0 0 User ∷ stored 0 0 User
     ∷ stored 0xFFFE 0xFDFC Privileged
     ∷ [])
 
+-- and the shortest image, of a machine whose lists end before their counts, which code cannot hold: what is missing is written as zeros
 pub long-written :
-    (imageFor (long-node 64) ≡ long-bytes)
-    × (map (writtenOf (long-node 64)) (317 ∷ 318 ∷ []) ≡ given 27 0 ∷ given 0 318 ∷ [])
+    (imageFor long-node ≡ long-bytes)
+    × (map (writtenOf long-node) (317 ∷ 318 ∷ []) ≡ given 27 0 ∷ given 0 318 ∷ [])
     × (imageFor (whole 1 5 (0x8001 ∷ []) (live 0x2003 0x1004 User false) 0 [] 1 0 [])
     ≡ 0x01 ∷ 0x00 ∷ 0x00 ∷ 0x12 ∷ 0x00 ∷ 0x04
     ∷ 0x02 ∷ 0x00 ∷ 0x00 ∷ 0x16 ∷ 0x00 ∷ 0x04
@@ -161,8 +169,8 @@ module _ (m : Machine) where
 
   pub restarted-spelled :
       restarted m
-      ≡ whole (m .pages) (m .exponent) (pad 256 0 (pad (2 * m .pages) 0 (m .fields))) (m .registers) (m .depth) (replicate 8 false) (m .programs)
-      (m .current) (pad 8 (stored 0 0 User) programs)
+      ≡ whole (m .pages) (m .exponent) (pad 256 0 (pad (2 * m .pages) 0 (m .fields))) (m .registers) 0 (replicate 8 false) (m .programs) 0
+      (pad 8 (stored 0 0 User) programs)
   unfolding restarted
   restarted-spelled = refl
 

@@ -146,36 +146,36 @@ module _ (m : Machine) (room : ℕ) where
 
 -- what is written, and the buffer after it, where nothing refuses
 module _ (m : Machine) (buffer : List ℕ) (accepted : first (writeChecks m (length buffer)) ≡ 0) where
-  pub all-written : writtenBytes m (length buffer) ≡ imageFor m
+  pub image-written : writtenBytes m (length buffer) ≡ imageFor m
   unfolding writtenBytes
-  all-written = rw accepted
+  image-written = rw accepted
 
   -- the number, and how many bytes
-  pub written-all : writtenOf m (length buffer) ≡ record { number = 0; count = size m }
+  pub done-answer : writtenOf m (length buffer) ≡ record { number = 0; count = size m }
   unfolding writtenOf
-  written-all = rw (accepted, all-written, image-length m)
+  done-answer = rw (accepted, image-written, image-length m)
 
-  pub stored-all : bufferAfter m buffer ≡ sets buffer 0 (imageFor m)
+  pub done-buffer : bufferAfter m buffer ≡ sets buffer 0 (imageFor m)
   unfolding bufferAfter
-  stored-all =
+  done-buffer =
       let image = imageFor m in
-      rw all-written
+      rw image-written
       (ap (λ (n : ℕ). image ++ drop n buffer) (sym (zero-add (length image)))
       ∙ sym (sets-eq image buffer 0 (omega (arith, image-length m, ready m (length buffer) accepted .1))))
 
 -- and where something does
 module _ (m : Machine) (buffer : List ℕ) (refused : eqb (first (writeChecks m (length buffer))) 0 ≡ false) where
-  none-written : writtenBytes m (length buffer) ≡ []
+  nothing-written : writtenBytes m (length buffer) ≡ []
   unfolding writtenBytes
-  none-written = rw refused
+  nothing-written = rw refused
 
-  pub written-none : writtenOf m (length buffer) ≡ record { number = first (writeChecks m (length buffer)); count = 0 }
+  pub refused-answer : writtenOf m (length buffer) ≡ record { number = first (writeChecks m (length buffer)); count = 0 }
   unfolding writtenOf
-  written-none = rw none-written
+  refused-answer = rw nothing-written
 
-  pub stored-none : bufferAfter m buffer ≡ buffer
+  pub refused-buffer : bufferAfter m buffer ≡ buffer
   unfolding bufferAfter
-  stored-none = rw none-written
+  refused-buffer = rw nothing-written
 
 -- RULES 5.16: whatever refuses, no byte is written and the whole buffer is as it was
 pub refused-keeps : (m : Machine) (buffer : List ℕ) → (writtenOf m (length buffer) .number ≡ 0 → ⊥)
@@ -183,7 +183,7 @@ pub refused-keeps : (m : Machine) (buffer : List ℕ) → (writtenOf m (length b
 unfolding writtenOf
 refused-keeps m buffer refused =
     let not-zero = ne-eqb (first (writeChecks m (length buffer))) 0 refused in
-    (ap length (none-written m buffer not-zero), stored-none m buffer not-zero)
+    (ap length (nothing-written m buffer not-zero), refused-buffer m buffer not-zero)
 
 -- RULES 5.16: what is written fits, so that a buffer keeps its length, and the bytes past the count stay
 pub buffer-kept : (m : Machine) (buffer : List ℕ)
@@ -202,5 +202,5 @@ buffer-kept m buffer =
     split : (b : Bool) → eqb (first (writeChecks m (length buffer))) 0 ≡ b → length (writtenBytes m (length buffer)) ≤ length buffer
     split true e =
         let accepted = eqb-true (first (writeChecks m (length buffer))) 0 e in
-        rw (all-written m buffer accepted) (omega (arith, image-length m, ready m (length buffer) accepted .1))
-    split false e = rw (none-written m buffer e) (omega arith)
+        rw (image-written m buffer accepted) (omega (arith, image-length m, ready m (length buffer) accepted .1))
+    split false e = rw (nothing-written m buffer e) (omega arith)

@@ -63,7 +63,7 @@ pub record Legal (d : Description) : Type 0 where
   pub masks-fit : (i : ℕ) → getD (d .programs) i noProgram .mask < 65536
 
 module _ {A : Type 0} where
-  -- RULES 5.9: a list in n places, with z, which is zero or user, past its end
+  -- RULES 5.9, 5.14: a list in n places and no more, with z, which is zero or user, past its end
   abbrev pub pad : ℕ → A → List A → List A
   pad zero z l = []
   pad (suc n) z [] = z ∷ pad n z []

@@ -17,11 +17,11 @@ use Rattle.image.specs.declared.writer.Written.{Written}
 abbrev pub entryOf : Registers → Program
 entryOf r = record { context = r .context; mask = r .mask; mode = r .mode }
 
--- RULES 5.14: both fields of each page below the page count
+-- RULES 5.14: both fields of each page below the page count, none past it
 abbrev pub countedFields : Machine → List ℕ
 countedFields m = pad (2 * m .pages) 0 (m .fields)
 
--- RULES 5.14: the programs below the program count: the live registers for program 0, the stored entries for the others
+-- RULES 5.14: the programs below the program count, none past it: the live registers for program 0, the stored entries for the others
 abbrev pub countedPrograms : Machine → List Program
 countedPrograms m = pad (m .programs) noProgram (entryOf (m .registers) ∷ drop 1 (m .table))
 
@@ -35,7 +35,7 @@ descriptionOf m =
       programs = countedPrograms m;
     }
 
--- RULES 5.14: the image that starts a machine
+-- RULES 5.14: the image of a machine
 abbrev pub imageFor : Machine → List ℕ
 imageFor m = bytesOf (descriptionOf m)
 
@@ -65,7 +65,7 @@ bufferAfter m buffer =
     let written = writtenBytes m (length buffer) in
     written ++ drop (length written) buffer
 
--- RULES 5.17: the machine that the image starts
+-- RULES 5.17: the machine that the image of a machine at rest starts
 unfoldable pub restarted : Machine → Machine
 restarted m =
     record {
@@ -73,9 +73,9 @@ restarted m =
       exponent = m .exponent;
       fields = pad 256 0 (countedFields m);
       registers = m .registers;
-      depth = m .depth;
+      depth = 0;
       saved = replicate 8 false;
       programs = m .programs;
-      current = m .current;
+      current = 0;
       table = pad 8 noProgram (countedPrograms m);
     }

@@ -9,7 +9,7 @@ use Rattle.rules.specs.Refusals.{first}
 use Rattle.machine.proofs.Lengths.{mapped-length}
 use Rattle.machine.proofs.Sound.{sound-facts}
 use Rattle.image.specs.Write.{writeChecks}
-use Rattle.image.proofs.Writes.{ready, image-parts, written-all, stored-all, written-none, stored-none}
+use Rattle.image.proofs.Writes.{ready, image-parts, done-answer, done-buffer, refused-answer, refused-buffer}
 use Rattle.image.proofs.writer.write.Statement.{statement}
 use Rattle.image.proofs.writer.write.Tie as tie
 
@@ -53,8 +53,8 @@ returns c =
     let m = start .args .machine in
     let buffer = start .args .buf .now in
     let image = image-parts m _ (tabling .write-program .ensures ∙ ap (set (m .table) 0) (entering .entry-of .ensures)) (omega (arith, eight start)) in (
-      rw (written-all m buffer (accepted then), writing .write-image .ensures .0, then .before .write-number .ensures, accepted then),
-      writing .write-image .ensures .1 ∙ ap (sets buffer 0) image ∙ sym (stored-all m buffer (accepted then)),
+      rw (done-answer m buffer (accepted then), writing .write-image .ensures .0, then .before .write-number .ensures, accepted then),
+      writing .write-image .ensures .1 ∙ ap (sets buffer 0) image ∙ sym (done-buffer m buffer (accepted then)),
     )
 
 returns-2 : tie.Need-returns-2
@@ -63,7 +63,7 @@ returns-2 c =
     let m = start .args .machine in
     let buffer = start .args .buf .now in
     let refused = rw (c .before .write-number .ensures) at (c .if1 .left) in
-    (rw (written-none m buffer refused, c .before .write-number .ensures), sym (stored-none m buffer refused))
+    (rw (refused-answer m buffer refused, c .before .write-number .ensures), sym (refused-buffer m buffer refused))
 
 pub write-spec : {M : Type 1} → statement M
 write-spec =
