@@ -111,8 +111,8 @@ pub record Shaped (d : Description) : Type 0 where
   pub programs-most : length (d .programs) ≤ 8
   pub two-fields : length (d .fields) ≡ 2 * d .pages
 
-pub shaped : (d : Description) → Legal d → Shaped d
-shaped d legal =
+pub legal-shaped : (d : Description) → Legal d → Shaped d
+legal-shaped d legal =
     record {
       pages-least = legal .pages-least;
       pages-most = legal .pages-most;

@@ -12,7 +12,7 @@ use Rattle.image.specs.Bytes.{Bytes, word, bodies}
 use Rattle.image.specs.Description.{Description, Legal, entry, shape, modeByte, programBytes, bytesOf, machineOf}
 use Rattle.image.specs.Load.{describe, loadOf}
 use Rattle.image.proofs.Passed.{passed, passes}
-use Rattle.image.proofs.Reread.{Shaped, shaped, describe-bytes, bytes-pass}
+use Rattle.image.proofs.Reread.{Shaped, legal-shaped, describe-bytes, bytes-pass}
 use Rattle.image.proofs.Rewritten.{bytes-of-describe, describe-legal}
 
 -- a string is the image of a description
@@ -78,7 +78,7 @@ unfolding loadOf
 shaped-loads d counts = rw (passes (bytesOf d) (bytes-pass d counts), describe-bytes d counts)
 
 pub legal-loads : (d : Description) → Legal d → loadOf (bytesOf d) ≡ record { number = 0; machine = machineOf d }
-legal-loads d legal = shaped-loads d (shaped d legal)
+legal-loads d legal = shaped-loads d (legal-shaped d legal)
 
 -- whatever loads is the image of a description, and of one only
 pub loads-one : (s : List ℕ) → Bytes s → loadOf s .number ≡ 0
@@ -88,5 +88,5 @@ loads-one s bytes loads =
     let p = passed s loads in (
       describe s,
       record { legal = describe-legal s bytes p; written = bytes-of-describe s bytes p },
-      (λ e image. sym (describe-bytes e (shaped e (image .legal))) ∙ ap describe (image .written)),
+      (λ e image. sym (describe-bytes e (legal-shaped e (image .legal))) ∙ ap describe (image .written)),
     )
