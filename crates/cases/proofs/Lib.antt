@@ -1,1 +1,3 @@
 mod Places
+mod Rounds
+mod Pinned

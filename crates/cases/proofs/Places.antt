@@ -1,7 +1,7 @@
 -- Where cases stand: each ends past its start, and the next one stands past it and within the bytes. By cases of whether the bytes hold it.
 -- And some that are written out.
 use Prim.Native.Nat.{ℕ, _+_, _≤_, _<_}
-use mathlib.Core.List.{List, [], _∷_}
+use mathlib.Core.List.{List, [], _∷_, map}
 use mathlib.Core.Path.{_≡_, refl}
 use mathlib.Core.Bool.{Bool, true, false}
 use borrow.Author.Tests.{leb-true}
@@ -9,7 +9,7 @@ use native.Mathlib.Omega.{arith}
 use lib.Dec.{leb}
 use lib.ListN.{length}
 use Rattle.rules.specs.Refusals.{pick}
-use Rattle.cases.specs.Cases.{endOf, nextOf}
+use Rattle.cases.specs.Cases.{isWriting, endOf, nextOf}
 
 pub end-past : (bytes : List ℕ) (at : ℕ) → at + 4 ≤ endOf bytes at
 unfolding endOf
@@ -23,12 +23,19 @@ next-past bytes at before = split (leb (endOf bytes at) (length bytes)) refl
     split true holds = (omega (arith, end-past bytes at), leb-true _ _ holds)
     split false cuts = (before, omega arith)
 
--- a length of four bytes, high byte first, at a place; a case that the bytes hold, one that they end with and one that they cut
+-- a length of three bytes, high byte first, at a place, whatever the kind before it; a case that the bytes hold, one that they end
+-- with and one that they cut
 pub cases-stand :
     (endOf (9 ∷ 0 ∷ 1 ∷ 0 ∷ 2 ∷ []) 1 ≡ 65543)
-    × (endOf (1 ∷ 2 ∷ 3 ∷ 4 ∷ []) 0 ≡ 16909064)
+    × (endOf (1 ∷ 2 ∷ 3 ∷ 4 ∷ []) 0 ≡ 131848)
     × (nextOf (0 ∷ 0 ∷ 0 ∷ 2 ∷ 7 ∷ 8 ∷ 9 ∷ []) 0 ≡ 6)
     × (nextOf (0 ∷ 0 ∷ 0 ∷ 2 ∷ 7 ∷ 8 ∷ []) 0 ≡ 6)
     × (nextOf (0 ∷ 0 ∷ 0 ∷ 2 ∷ 7 ∷ []) 0 ≡ 5)
 unfolding endOf nextOf
 cases-stand = (refl, refl, refl, refl, refl)
+
+-- the first byte of a case is its kind, and 1 alone is one of writing
+pub writing-kinds :
+    (isWriting (1 ∷ 0 ∷ 0 ∷ 0 ∷ []) 0 ≡ true)
+    × (map (isWriting (0 ∷ 1 ∷ 0 ∷ 0 ∷ 2 ∷ 255 ∷ 0 ∷ 1 ∷ [])) (0 ∷ 1 ∷ 4 ∷ 5 ∷ 8 ∷ []) ≡ false ∷ true ∷ false ∷ false ∷ false ∷ [])
+writing-kinds = (refl, refl)

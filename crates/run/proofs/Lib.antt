@@ -1,5 +1,5 @@
-mod Parts
-mod Steps
+pub mod Parts
+pub mod Steps
 pub mod Sent
 mod Given
 pub mod Examples

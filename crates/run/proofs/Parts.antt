@@ -23,11 +23,11 @@ least-same f k n size past e = split (leb n size) refl
         let ends : k ≡ size = omega arith in
         ap f ends ∙ sym (past n (omega arith))
 
-take-least : (k n : ℕ) (l : List ℕ) → k ≡ min n (length l) → take k l ≡ take n l
+pub take-least : (k n : ℕ) (l : List ℕ) → k ≡ min n (length l) → take k l ≡ take n l
 take-least k n l =
     least-same (λ j. take j l) k n (length l) (λ j h. take-all j l h ∙ sym (take-all (length l) l (le-refl (length l))))
 
-drop-least : (k n : ℕ) (l : List ℕ) → k ≡ min n (length l) → drop k l ≡ drop n l
+pub drop-least : (k n : ℕ) (l : List ℕ) → k ≡ min n (length l) → drop k l ≡ drop n l
 drop-least k n l =
     least-same (λ j. drop j l) k n (length l)
     (λ j h. drop-of-length-le l h ∙ sym (drop-of-length-le l (le-refl (length l))))

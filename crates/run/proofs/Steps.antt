@@ -46,7 +46,7 @@ unknown-kind kind right a b past = split (eqb kind 0) refl
     split false e = sym (List·getD-eq-default (kinds right a b) Unknown (past (eqb-false kind 0 e)))
 
 -- the first record of a string of bytes that has six
-first-record : (l : List ℕ) → 6 ≤ length l
+pub first-record : (l : List ℕ) → 6 ≤ length l
     → callsOf l
     ≡ callOfKind (getD l 0 0) (getD l 1 0) (wordOf (getD l 2 0) (getD l 3 0)) (wordOf (getD l 4 0) (getD l 5 0)) ∷ callsOf (drop 6 l)
 unfolding callsOf

@@ -5,4 +5,5 @@ mod records;
 pub use bench::bench_run;
 pub use bench::calls_start;
 pub use records::Decoded;
+pub use records::call_of_kind;
 pub use records::step;

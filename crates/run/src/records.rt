@@ -27,7 +27,7 @@ fn address_of(a: u16, b: u16) -> u32
 }
 
 // The call of a kind, with the parts of its record (RULES 6.5).
-fn call_of_kind(kind: u8, right: u8, a: u16, b: u16) -> Decoded
+pub fn call_of_kind(kind: u8, right: u8, a: u16, b: u16) -> Decoded
     ensures { λ r. ⌜ r ≡ callOfKind kind right a b ⌝ }
 {
     match kind {

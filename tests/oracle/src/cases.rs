@@ -1,4 +1,4 @@
-//! The stored cases, in a fixed order. Each says what it is for and, by hand from
+//! The stored runs, in a fixed order. Each says what it is for and, by hand from
 //! the rules, which answers are due; the unit tests hold the oracle to them.
 //!
 //! A run starts from a loaded machine, which is sound, and every call keeps it so.
@@ -20,6 +20,15 @@ pub struct Case {
     pub input: Vec<u8>,
     /// The answers as the bench gets them. The random runs at the end have none written here.
     pub due: Option<Vec<u8>>,
+}
+
+impl Case {
+    /// The oracle's answers against those due.
+    pub fn check(&self, number: usize) {
+        if let Some(due) = &self.due {
+            assert_eq!(&run::answers(&self.input), due, "case {number}: {}", self.purpose);
+        }
+    }
 }
 
 /// A call and the answer due to it.
@@ -63,39 +72,6 @@ pub fn all() -> Vec<Case> {
         cases.list.push(Case { purpose: format!("a random run, seed {seed}"), input, due: None });
     }
     cases.list
-}
-
-/// The stored file: for each case a length of 4 bytes, high byte first, and the input.
-pub fn file() -> Vec<u8> {
-    let mut file = Vec::new();
-    for case in all() {
-        file.extend((case.input.len() as u32).to_be_bytes());
-        file.extend(case.input);
-    }
-    file
-}
-
-/// What a program must print that reads the file. It is not written where the oracle
-/// and the answers written by hand disagree.
-pub fn output() -> String {
-    let mut output = String::new();
-    for (before, case) in all().iter().enumerate() {
-        if let Some(due) = &case.due {
-            assert_eq!(&run::answers(&case.input), due, "case {}: {}", before + 1, case.purpose);
-        }
-        output += &format!("case {}\n", before + 1);
-        output += &run::text(&case.input);
-    }
-    output
-}
-
-/// One line for each case, for people.
-pub fn listing() -> String {
-    let mut listing = String::new();
-    for (before, case) in all().iter().enumerate() {
-        listing += &format!("{:4} {:6}  {}\n", before + 1, case.input.len(), case.purpose);
-    }
-    listing
 }
 
 /// The sample node: 3 pages of 256 bytes, two programs.

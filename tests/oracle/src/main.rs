@@ -8,8 +8,9 @@ mod image;
 mod inputs;
 mod machine;
 mod random;
-mod rewrites;
+mod rounds;
 mod run;
+mod stored;
 #[cfg(test)]
 mod tests;
 mod write;
@@ -20,8 +21,8 @@ use std::env;
 use std::io::{self, Read, Write};
 use std::process::ExitCode;
 
-const USAGE: &str = "usage: oracle text | answers | cases-input | cases-output | cases-list | compare SEED RUNS
-       oracle writes-text | writes-input | writes-output | writes-list | writes-random SEED RUNS";
+const USAGE: &str = "usage: oracle text | answers | compare SEED RUNS
+       oracle cases-input | cases-output | cases-list | cases-text | writes-random SEED RUNS";
 const NUMBERS: &str = "SEED and RUNS are decimal numbers";
 
 fn main() -> ExitCode {
@@ -33,13 +34,10 @@ fn main() -> ExitCode {
             let lines: String = run::answers(&standard_input()).iter().map(|answer| format!("{answer}\n")).collect();
             lines.into_bytes()
         }
-        ["cases-input"] => cases::file(),
-        ["cases-output"] => cases::output().into_bytes(),
-        ["cases-list"] => cases::listing().into_bytes(),
-        ["writes-text"] => rewrites::text(&standard_input()).into_bytes(),
-        ["writes-input"] => writes::file(),
-        ["writes-output"] => writes::output().into_bytes(),
-        ["writes-list"] => writes::listing().into_bytes(),
+        ["cases-input"] => stored::input(),
+        ["cases-output"] => stored::output().into_bytes(),
+        ["cases-list"] => stored::listing().into_bytes(),
+        ["cases-text"] => stored::text(&standard_input()).into_bytes(),
         ["writes-random", seed, runs] => match (seed.parse(), runs.parse()) {
             (Ok(seed), Ok(runs)) => match writes::many::file(seed, runs) {
                 Ok(file) => file,

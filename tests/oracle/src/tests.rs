@@ -6,8 +6,9 @@ use crate::histories::legal_plan;
 use crate::image::load;
 use crate::machine::{prevailing, Domain, Fields, Machine, Mode, Page, Program, READ, WRITE};
 use crate::random::Random;
-use crate::rewrites;
+use crate::rounds::take_apart;
 use crate::run::{answers, split, step, text, RECORD};
+use crate::stored::{self, RUN, WRITING};
 use crate::writer::{write_image, Written};
 use crate::writes::{self, many};
 use std::collections::BTreeSet;
@@ -266,7 +267,7 @@ fn loading_what_was_written_gives_the_machine_again() {
     let (mut changed, mut entry_old, mut privileged) = (0, 0, 0);
     for number in 0..400 {
         let case = many::case(&mut Random::numbered(1, number));
-        let (image, records) = split(rewrites::take_apart(&case).1);
+        let (image, records) = split(take_apart(&case).1);
         let Ok(mut machine) = load(image) else {
             continue;
         };
@@ -312,34 +313,66 @@ fn random_cases_of_the_writer_reach_all_its_numbers_in_a_short_file() {
     for seed in 1..=20 {
         let file = many::file(seed, 400).expect("each number comes often");
         assert!(file.len() < 262_144, "seed {seed}");
-        assert_eq!(rewrites::cases(&file).len(), 400);
+        assert_eq!(stored::cases(&file).len(), 400);
     }
     assert_eq!(many::file(1, 0), Ok(vec![]));
     assert!(many::file(1, 3).is_ok());
 }
 
+/// A file of cases of writing alone.
+fn writings(cases: &[&[u8]]) -> Vec<u8> {
+    stored::file(cases.iter().map(|&case| (WRITING, case)))
+}
+
 #[test]
 fn the_text_of_two_rounds() {
     let image = "01 00 00 12 00 04 02 00 00 16 00 0C 03 00 00 22 00 0A 03 08 02 00 \
-                 00 09 00 00 00 0A 00 02 00 0C 00 04 00 07 00 07 00 00 08 FF FF 00 D3";
+                 00 09 00 00 00 0A 00 02 00 0C 00 04 00 07 00 07 00 00 08 FF FF 00 EE";
     let calls = [4, 0, 0, 0, 0, 7, 6, 0, 0, 0, 0, 0, 5];
     let good = [&[0, 45, 0, 44], &SAMPLE[..], &calls].concat();
     let round = format!("load 0\n1 0\n2 7\nwrite 0 44\n{image}\n");
-    let file = rewrites::file([&good[..], &[0, 3, 0, 0], &[]]);
     let nothing = "load 20\nwrite 1 0\n";
-    let short = format!("{nothing}FF FE FD\n");
+    let short = format!("{nothing}EE EE EE\n");
     let none = format!("{nothing}\n");
     let due = format!("case 1\n{round}{round}case 2\n{short}{short}case 3\n{none}{none}");
-    assert_eq!(rewrites::text(&file), due);
+    assert_eq!(stored::text(&writings(&[&good[..], &[0, 3, 0, 0], &[]])), due);
 
-    // A case that the file cuts off is not there, nor is a length that it cuts off.
-    assert_eq!(rewrites::text(&[&file[..], &[0, 0, 0]].concat()), due);
-    assert_eq!(rewrites::text(&[&file[..], &[0, 0, 0, 2, 0]].concat()), due);
-    assert_eq!(rewrites::text(&[&file[..], &[255, 255, 255, 255, 0]].concat()), due);
-    assert_eq!(rewrites::text(&[]), "");
     let not_at_rest = [&[0, 2, 0, 44], &SAMPLE[..], &[5, 0, 0, 0, 0, 0]].concat();
-    let due = format!("case 1\nload 0\n1 0\nwrite 26 0\nFF FE\n{nothing}FF FE\n");
-    assert_eq!(rewrites::text(&rewrites::file([&not_at_rest[..]])), due);
+    let due = format!("case 1\nload 0\n1 0\nwrite 26 0\nEE EE\n{nothing}EE EE\n");
+    assert_eq!(stored::text(&writings(&[&not_at_rest[..]])), due);
+}
+
+#[test]
+fn a_file_of_cases() {
+    // A case of writing is 1; every other kind is a run.
+    let bytes = [1, 0, 0, 3, 0, 1, 0, 0, 0, 0, 0, 2, 0, 0, 2, 0, 0, 0, 0, 0, 1, 9, 255, 0, 0, 0];
+    let cases = [(1, &[0, 1, 0][..]), (0, &[]), (2, &[0, 0]), (0, &[9]), (255, &[])];
+    assert_eq!(stored::cases(&bytes), cases);
+    assert_eq!(stored::file(cases), bytes);
+    let round = "load 20\nwrite 1 0\nEE\n";
+    let run = "load 20\n";
+    let due = format!("case 1\n{round}{round}case 2\n{run}case 3\n{run}case 4\n{run}case 5\n{run}");
+    assert_eq!(stored::text(&bytes), due);
+
+    // A case that the file cuts off is not there, nor is a header that it cuts off.
+    for cut in [&[1, 0, 0][..], &[1, 0, 0, 2, 0], &[1, 255, 255, 255, 0]] {
+        assert_eq!(stored::cases(&[&bytes[..], cut].concat()), cases);
+    }
+    assert_eq!(stored::text(&[]), "");
+
+    // A length that takes all three bytes.
+    let long = stored::file([(RUN, &[5; 0x010203][..])]);
+    assert_eq!(long[..5], [0, 1, 2, 3, 5]);
+    assert_eq!(stored::cases(&long), [(RUN, &[5; 0x010203][..])]);
+}
+
+#[test]
+fn the_stored_file_has_the_runs_and_then_the_cases_of_writing() {
+    let file = stored::input();
+    assert!(file.len() <= 262_144, "what the program reads");
+    let (runs, writes) = (cases::all(), writes::all());
+    let kinds: Vec<u8> = stored::cases(&file).iter().map(|case| case.0).collect();
+    assert_eq!(kinds, [vec![RUN; runs.len()], vec![WRITING; writes.len()]].concat());
 }
 
 #[test]
@@ -355,6 +388,6 @@ fn the_room_of_a_case() {
         (&[2, 0x81], 640, &[]),
         (&[255, 255], 640, &[]),
     ] {
-        assert_eq!(rewrites::take_apart(case), (room, input));
+        assert_eq!(take_apart(case), (room, input));
     }
 }

@@ -1,4 +1,4 @@
-//! The stored cases of `rewrites`, in a fixed order. Each says what it is for and, by hand from
+//! The stored cases of writing, in a fixed order. Each says what it is for and, by hand from
 //! the rules, what is due in its two rounds: the answers, the writer's number and count, and
 //! bytes of the buffer, all of them or those that matter.
 
@@ -11,7 +11,7 @@ mod switches;
 
 use crate::cases::{sample, Step};
 use crate::random::Random;
-use crate::rewrites::{self, filling, Round};
+use crate::rounds::{self, Round, FILLING};
 use crate::write::*;
 use crate::writer::Written;
 
@@ -54,7 +54,7 @@ impl Due {
         }
         // Past the image, and after a refusal everywhere, the buffer is as it was (RULES 5.16).
         for (at, &byte) in round.buffer.iter().enumerate().skip(self.written.count) {
-            assert_eq!(byte, filling(at), "{what}: place {at}, which nobody may write");
+            assert_eq!(byte, FILLING, "{what}: place {at}, which nobody may write");
         }
     }
 
@@ -75,8 +75,8 @@ impl Case {
         let Some(due) = &self.due else {
             return;
         };
-        let (room, _) = rewrites::take_apart(&self.bytes);
-        for (before, (due, round)) in due.iter().zip(rewrites::rounds(&self.bytes)).enumerate() {
+        let (room, _) = rounds::take_apart(&self.bytes);
+        for (before, (due, round)) in due.iter().zip(rounds::rounds(&self.bytes)).enumerate() {
             due.check(&round, room, &format!("case {number}, {}, round {}", self.purpose, before + 1));
         }
     }
@@ -195,26 +195,4 @@ pub fn all() -> Vec<Case> {
         writes.list.push(Case { purpose: format!("a random case, seed {seed}"), bytes, due: None });
     }
     writes.list
-}
-
-pub fn file() -> Vec<u8> {
-    rewrites::file(all().iter().map(|case| &case.bytes[..]))
-}
-
-/// What `rewrites` must print for the stored file. Nothing comes out where the oracle and what
-/// was written by hand disagree.
-pub fn output() -> String {
-    for (before, case) in all().iter().enumerate() {
-        case.check(before + 1);
-    }
-    rewrites::text(&file())
-}
-
-/// One line for each case, for people.
-pub fn listing() -> String {
-    let mut listing = String::new();
-    for (before, case) in all().iter().enumerate() {
-        listing += &format!("{:4} {:6}  {}\n", before + 1, case.bytes.len(), case.purpose);
-    }
-    listing
 }

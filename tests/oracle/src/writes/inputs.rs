@@ -40,7 +40,7 @@ fn images_refused(writes: &mut Writes) {
 
 fn great_rooms(writes: &mut Writes) {
     let bytes = [(0, SAMPLE_CONTENTS), (18, SAMPLE_SHAPE), (22, SAMPLE_PAGES), (34, SAMPLE_PROGRAMS)];
-    let end = [(44, "D3"), (638, "81 80")];
+    let end = [(44, "EE"), (638, "EE EE")];
     let due = [&bytes[..], &end].concat();
     writes.written("room 641 counts as 640", 641, &sample(), &[], 44, &due);
     writes.written("room 65,535 counts as 640", 65_535, &sample(), &[], 44, &due);

@@ -20,25 +20,25 @@ fn unchanged(writes: &mut Writes) {
     writes.sample("the sample, room exact", &sample(), &[], SAMPLE_PAGES, SAMPLE_PROGRAMS);
     let head = [(0, SAMPLE_CONTENTS), (18, SAMPLE_SHAPE), (22, SAMPLE_PAGES), (34, SAMPLE_PROGRAMS)];
     writes.refused("the sample, one byte short", 43, &sample(), &[], 27);
-    writes.written("the sample, one byte more", 45, &sample(), &[], 44, &[&head[..], &[(44, "D3")]].concat());
+    writes.written("the sample, one byte more", 45, &sample(), &[], 44, &[&head[..], &[(44, "EE")]].concat());
     writes.written(
         "the sample, much more room",
         100,
         &sample(),
         &[],
         44,
-        &[&head[..], &[(44, "D3 D2 D1 D0"), (98, "9D 9C")]].concat(),
+        &[&head[..], &[(44, "EE EE EE EE"), (98, "EE EE")]].concat(),
     );
     for room in [0, 1, 18, 22, 31, 34, 39] {
         writes.refused(&format!("the sample, room {room}"), room, &sample(), &[], 27);
     }
     writes.written(
-        "the sample, room 300: past place 255 the filling starts again",
+        "the sample, room 300, which takes both bytes of the room",
         300,
         &sample(),
         &[],
         44,
-        &[&head[..], &[(254, "01 00 FF FE"), (299, "D4")]].concat(),
+        &[&head[..], &[(254, "EE EE EE EE"), (299, "EE")]].concat(),
     );
 }
 

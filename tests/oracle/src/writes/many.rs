@@ -1,10 +1,11 @@
-//! Random cases for `rewrites`: short inputs, and rooms around the image's length.
+//! Random cases of writing: short inputs, and rooms around the image's length.
 
 use crate::histories::{changes, legal_plan};
 use crate::inputs::spoilt;
 use crate::random::Random;
-use crate::rewrites::{self, MOST_ROOM};
+use crate::rounds::{rounds, MOST_ROOM};
 use crate::run::split;
+use crate::stored;
 use crate::write::*;
 
 /// From so many cases on, each of the writer's numbers must have come often.
@@ -18,7 +19,7 @@ pub const NUMBERS: [u8; 4] = [0, 1, 26, 27];
 pub fn file(seed: u64, runs: u64) -> Result<Vec<u8>, String> {
     let cases: Vec<Vec<u8>> = (0..runs).map(|number| case(&mut Random::numbered(seed, number))).collect();
     if runs >= ENOUGH_RUNS {
-        let numbers: Vec<u8> = cases.iter().map(|case| rewrites::rounds(case)[0].written.number).collect();
+        let numbers: Vec<u8> = cases.iter().map(|case| rounds(case)[0].written.number).collect();
         let times = |number: u8| numbers.iter().filter(|&&one| one == number).count();
         let rare = NUMBERS.iter().filter(|&&number| times(number) < LEAST);
         let wrong: String = rare
@@ -30,7 +31,7 @@ pub fn file(seed: u64, runs: u64) -> Result<Vec<u8>, String> {
             return Err(wrong);
         }
     }
-    Ok(rewrites::file(cases.iter().map(|case| &case[..])))
+    Ok(stored::file(cases.iter().map(|case| (stored::WRITING, &case[..]))))
 }
 
 /// The room and the input of one case.

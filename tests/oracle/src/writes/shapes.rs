@@ -14,7 +14,7 @@ fn least(writes: &mut Writes) {
     let head = "01 00 00 12 00 04  02 00 00 16 00 04  03 00 00 1A 00 05  01 05 01 00";
     let image = [(0, head), (22, "12 34 56 78  9A BC DE F0 00")];
     writes.written("least shape, room exact", 31, &least, &[], 31, &image);
-    writes.written("least shape, one byte more", 32, &least, &[], 31, &[&image[..], &[(31, "E0")]].concat());
+    writes.written("least shape, one byte more", 32, &least, &[], 31, &[&image[..], &[(31, "EE")]].concat());
     writes.refused("least shape, one byte short", 30, &least, &[], 27);
     writes.refused("least shape, room 0", 0, &least, &[], 27);
     writes.written(
@@ -73,14 +73,14 @@ fn greatest(writes: &mut Writes) {
     let image = [&[head], &pages[..], &[last_page, first_program], &programs].concat();
     writes.written("greatest shape, room exact", 574, &greatest, &[], 574, &image);
     writes.refused("greatest shape, one byte short", 573, &greatest, &[], 27);
-    writes.written("greatest shape, one byte more", 575, &greatest, &[], 574, &[&image[..], &[(574, "C1")]].concat());
+    writes.written("greatest shape, one byte more", 575, &greatest, &[], 574, &[&image[..], &[(574, "EE")]].concat());
     writes.written(
         "greatest shape, room 640",
         640,
         &greatest,
         &[],
         574,
-        &[&image[..], &[(574, "C1 C0"), (638, "81 80")]].concat(),
+        &[&image[..], &[(574, "EE EE"), (638, "EE EE")]].concat(),
     );
     writes.refused("greatest shape, room 62: the low byte of 574", 62, &greatest, &[], 27);
     writes.written(
@@ -163,7 +163,7 @@ fn between(writes: &mut Writes) {
             (38, "80 04 01 84  80 05 01 85  80 06 01 86  80 07 01 87"),
             (54, "80 08 01 88  80 09 01 89  80 0A 01 8A  80 0B 01 8B"),
             (70, "80 0C 01 8C  80 0D 01 8D  80 0E 01 8E  00 0F 81 8F"),
-            (86, "01 23 45 67 00  89 AB CD EF 01  9F"),
+            (86, "01 23 45 67 00  89 AB CD EF 01  EE"),
         ],
     );
     writes.refused("16 pages of 4,096 bytes, one byte short", 95, &of_16, &[], 27);

@@ -130,7 +130,7 @@ fn more_programs(writes: &mut Writes) {
         &[
             (0, "01 00 00 12 00 04  02 00 00 16 00 0C  03 00 00 22 00 0F  03 08 03 00"),
             (22, SAMPLE_PAGES),
-            (34, "00 07 55 66 00  00 08 33 44 00  0C 30 11 22 00  CE"),
+            (34, "00 07 55 66 00  00 08 33 44 00  0C 30 11 22 00  EE"),
         ],
     );
     let eight = Plan { exponent: 5, pages: vec![(0x1234, 0xFEDC)], programs: eight_programs() };

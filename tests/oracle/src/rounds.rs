@@ -1,5 +1,5 @@
-//! What the test program `rewrites` prints: for each case two rounds of load, calls and write,
-//! the second on the bytes that the first wrote.
+//! What is printed for a case of writing: two rounds of load, calls and write, the second on the
+//! bytes that the first wrote.
 
 use crate::image::load;
 use crate::machine::Machine;
@@ -9,11 +9,8 @@ use crate::writer::{write_image, Written};
 /// A buffer is never longer than this, whatever room a case names.
 pub const MOST_ROOM: usize = 640;
 
-/// What place `at` of a buffer holds before a write. Neighbours differ, so that a byte moved
-/// or left out shows.
-pub fn filling(at: usize) -> u8 {
-    255 - (at % 256) as u8
-}
+/// What every place of a buffer holds before a write.
+pub const FILLING: u8 = 0xEE;
 
 pub struct Round {
     pub load: u8,
@@ -39,7 +36,7 @@ impl Round {
 }
 
 fn round(image: &[u8], records: &[u8], room: usize) -> Round {
-    let mut buffer: Vec<u8> = (0..room).map(filling).collect();
+    let mut buffer = vec![FILLING; room];
     // A refused load leaves the all-zero machine. No call is made on it, but it is written.
     let (load, mut machine, records) = match load(image) {
         Ok(machine) => (0, machine, records),
@@ -67,38 +64,7 @@ pub fn rounds(case: &[u8]) -> [Round; 2] {
     [first, second]
 }
 
-/// The whole cases of a file. One that the file cuts off is left out.
-pub fn cases(mut file: &[u8]) -> Vec<&[u8]> {
-    let mut cases = Vec::new();
-    while let Some((length, rest)) = file.split_first_chunk::<4>() {
-        let length = u32::from_be_bytes(*length) as usize;
-        let Some((case, rest)) = rest.split_at_checked(length) else {
-            break;
-        };
-        cases.push(case);
-        file = rest;
-    }
-    cases
-}
-
-/// What `rewrites` prints for a file of cases.
-pub fn text(file: &[u8]) -> String {
-    let mut text = String::new();
-    for (before, case) in cases(file).into_iter().enumerate() {
-        text += &format!("case {}\n", before + 1);
-        for round in rounds(case) {
-            text += &round.text();
-        }
-    }
-    text
-}
-
-/// The file of these cases.
-pub fn file<'a>(cases: impl IntoIterator<Item = &'a [u8]>) -> Vec<u8> {
-    let mut file = Vec::new();
-    for case in cases {
-        file.extend((case.len() as u32).to_be_bytes());
-        file.extend(case);
-    }
-    file
+/// What is printed for a case.
+pub fn text(case: &[u8]) -> String {
+    rounds(case).iter().map(Round::text).collect()
 }
