@@ -1,10 +1,10 @@
 -- The parts of a round: a call that a record was decoded to, one record more of those that are left, and what stands in the buffer after a write.
-use Prim.Native.Nat.{ℕ, _+_, _-_, _≤_}
+use Prim.Native.Nat.{ℕ, _+_, _≤_}
 use mathlib.Core.Path.{_≡_, refl}
 use mathlib.Core.List.{List}
 use native.Mathlib.Omega.{arith}
 use lib.ListN.{length, take, drop, length-drop, length-append}
-use lib.Seq.{take-all, take-at, drop-drop}
+use lib.Seq.{take-at, drop-drop}
 use Rattle.machine.specs.Calls.{callOf}
 use Rattle.machine.specs.declared.record.Machine.{Machine}
 use Rattle.machine.specs.declared.record.Answered.{Answered}
@@ -22,10 +22,6 @@ pub asked : (m : Machine) (call : Call) {r : Answered} {decoded : Decoded} {name
     → r ≡ stepOf m decoded
 unfolding stepBy
 asked m call answer decodes names = rw (decodes, names) answer
-
--- the part of a string of bytes from a place on
-pub part-from : (s : List ℕ) (at : ℕ) → take (length s - at) (drop at s) ≡ drop at s
-part-from s at = take-all (length s - at) (drop at s) (simp length-drop (omega arith))
 
 -- one record more
 pub one-more : (m : Machine) (s : List ℕ) (at : ℕ) → at + 6 ≤ length s

@@ -32,6 +32,10 @@ sets-from l zero s = refl
 sets-from [] (suc at) s = simp sets-none
 sets-from (x ∷ l) (suc at) s = rw sets-behind (ap (λ (t : List ℕ). x ∷ t) (sets-from l at s))
 
+-- the part of a string of bytes from a place on, as a function has it that is lent this part
+pub part-from : (l : List ℕ) (at : ℕ) → take (length l - at) (drop at l) ≡ drop at l
+part-from l at = take-all (length l - at) (drop at l) (simp length-drop (omega arith))
+
 -- a buffer whose part from a place on was lent, and came back as other bytes
 abbrev pub returned : List ℕ → ℕ → List ℕ → List ℕ
 returned l at part = take at l ++ (part ++ drop (length l - at) (drop at l))
@@ -39,8 +43,8 @@ returned l at part = take at l ++ (part ++ drop (length l - at) (drop at l))
 -- what was stored from the part's first byte on is stored in the buffer at that place
 pub sets-part : (l : List ℕ) (at : ℕ) (s part : List ℕ) → part ≡ sets (take (length l - at) (drop at l)) 0 s → returned l at part ≡ sets l at s
 sets-part l at s part e =
-    let long : length (drop at l) ≤ length l - at = simp length-drop (omega arith) in
-    rw (e, take-all (length l - at) (drop at l) long, drop-of-length-le (drop at l) {i = length l - at} long, append-nil) (sets-from l at s)
+    let none = drop-of-length-le (drop at l) {i = length l - at} (simp length-drop (omega arith)) in
+    rw (e, part-from l at, none, append-nil) (sets-from l at s)
 
 -- a loop that stores the bodies of a list in n places, one after another, each of one size
 module _ {A : Type 0} (size : ℕ) (write : A → List ℕ) (z : A) (n : ℕ) (l : List A) (start : List ℕ) where

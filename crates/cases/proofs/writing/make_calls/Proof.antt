@@ -8,7 +8,8 @@ use lib.ListN.{length, drop, length-drop}
 use Rattle.run.specs.Records.{callsOf}
 use Rattle.run.proofs.Steps.{no-record}
 use Rattle.cases.specs.Writing.{machineAfter}
-use Rattle.cases.proofs.Rounds.{part-from, one-more}
+use Rattle.image.proofs.Stored.{part-from}
+use Rattle.cases.proofs.Rounds.{one-more}
 use Rattle.cases.proofs.writing.make_calls.Statement.{statement}
 use Rattle.cases.proofs.writing.make_calls.Tie as tie
 

@@ -2,7 +2,7 @@
 use mathlib.Core.Path.{_∙_}
 use borrow.Author.Needs.{needs}
 use Rattle.run.proofs.Parts.{drop-least}
-use Rattle.cases.proofs.Rounds.{part-from}
+use Rattle.image.proofs.Stored.{part-from}
 use Rattle.cases.proofs.writing.past_two.Statement.{statement}
 use Rattle.cases.proofs.writing.past_two.Tie as tie
 

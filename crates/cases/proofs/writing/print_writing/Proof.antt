@@ -5,7 +5,7 @@ use borrow.Author.Needs.{needs}
 use lib.Seq.{length-take-le}
 use Rattle.run.proofs.Parts.{take-least, drop-least}
 use Rattle.cases.specs.Writing.{rewrittenOf}
-use Rattle.cases.proofs.Rounds.{part-from}
+use Rattle.image.proofs.Stored.{part-from}
 use Rattle.cases.proofs.writing.print_writing.Statement.{statement}
 use Rattle.cases.proofs.writing.print_writing.Tie as tie
 
