@@ -10,7 +10,7 @@
  */
 #define _POSIX_C_SOURCE 199309L
 
-#include "plain.h"
+#include "plain_write.h"
 
 #include <float.h>
 #include <stdio.h>

@@ -63,7 +63,7 @@ ANTT
     tail -n 20 "$room/log" >&2
     exit 1
 }
-gcc -std=c11 -O2 -Wall -Wextra -Werror -I "$here" "$here/write.c" "$here/plain.c" "$room/target/staticlib/libtiming.a" -o "$room/write"
+gcc -std=c11 -O2 -Wall -Wextra -Werror -I "$here" "$here/write.c" "$here/plain_write.c" "$room/target/staticlib/libtiming.a" -o "$room/write"
 "$room/write"
 
 # The instructions of a whole program run: which, times.
