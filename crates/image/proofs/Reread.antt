@@ -1,5 +1,5 @@
--- What is written is read again: the bytes of a legal description say that description, and nothing refuses them.
-use Prim.Native.Nat.{ℕ, _+_, _*_, _^_, _≤_}
+-- What is written is read again: the bytes of a description whose counts are in range say that description, and nothing refuses them.
+use Prim.Native.Nat.{ℕ, _+_, _*_}
 use mathlib.Core.Path.{_≡_, refl, ap, sym, _∙_}
 use mathlib.Core.Bool.{true}
 use mathlib.Core.List.{List, [], _∷_, _++_, map, map-id, append-assoc, append-nil}
@@ -12,7 +12,7 @@ use Rattle.rules.specs.declared.registers.Mode.the-variants.{User, Privileged}
 use Rattle.machine.specs.Calls.{modeOf}
 use Rattle.machine.specs.declared.record.Program.{Program}
 use Rattle.image.specs.Bytes.{byteAt, word, entries, bodies}
-use Rattle.image.specs.Description.{Description, Legal, contents, shape, modeByte, programBytes, bytesOf}
+use Rattle.image.specs.Description.{Description, Shaped, contents, shape, modeByte, programBytes, bytesOf}
 use Rattle.image.specs.Load.{fieldAt, programAt, modeAt, areModes, describe}
 use Rattle.image.proofs.Passed.{Passed}
 
@@ -100,35 +100,11 @@ module _ (d : Description) (two-fields : length (d .fields) ≡ 2 * d .pages) wh
       let p = bodies programBytes (d .programs) in
       rw (split d, length-append (upTo d) (p ++ []), up-to-length, append-nil p, length-bodies 5 programBytes (λ x. refl) (d .programs))
 
--- what reading back asks of a description: its counts are in their ranges. That its numbers have 16 bits it does not ask.
-pub record Shaped (d : Description) : Type 0 where
-  pub pages-least : 1 ≤ d .pages
-  pub pages-most : d .pages ≤ 128
-  pub exponent-least : 5 ≤ d .exponent
-  pub exponent-most : d .exponent ≤ 12
-  pub memory-most : d .pages * 2 ^ d .exponent ≤ 65536
-  pub programs-least : 1 ≤ length (d .programs)
-  pub programs-most : length (d .programs) ≤ 8
-  pub two-fields : length (d .fields) ≡ 2 * d .pages
-
-pub legal-shaped : (d : Description) → Legal d → Shaped d
-legal-shaped d legal =
-    record {
-      pages-least = legal .pages-least;
-      pages-most = legal .pages-most;
-      exponent-least = legal .exponent-least;
-      exponent-most = legal .exponent-most;
-      memory-most = legal .memory-most;
-      programs-least = legal .programs-least;
-      programs-most = legal .programs-most;
-      two-fields = legal .two-fields;
-    }
-
-module _ (d : Description) (legal : Shaped d) where
+module _ (d : Description) (counts : Shaped d) where
   fields-read : entries 2 (fieldAt (bytesOf d)) 22 (2 * d .pages) ≡ d .fields
   unfolding bytesOf
   fields-read =
-      rw (← legal .two-fields)
+      rw (← counts .two-fields)
       (entries-read 2 word (λ w. refl) (λ w. w) fieldAt field-read (front d) (bodies programBytes (d .programs)) (d .fields) ∙ map-id (d .fields))
 
   -- the programs, or their mode bytes
@@ -136,7 +112,7 @@ module _ (d : Description) (legal : Shaped d) where
       → ((p t : List ℕ) (x : Program) → read (p ++ (programBytes x ++ t)) (length p) ≡ value x)
       → entries 5 (read (bytesOf d)) (22 + 4 * d .pages) (length (d .programs)) ≡ map value (d .programs)
   programs-read value read back =
-      rw (← up-to-length d (legal .two-fields), split d) (entries-read 5 programBytes (λ x. refl) value read back (upTo d) [] (d .programs))
+      rw (← up-to-length d (counts .two-fields), split d) (entries-read 5 programBytes (λ x. refl) value read back (upTo d) [] (d .programs))
 
   pub describe-bytes : describe (bytesOf d) ≡ d
   unfolding describe bytesOf
@@ -154,18 +130,18 @@ module _ (d : Description) (legal : Shaped d) where
         zero-2 = refl;
         offset-0 = refl;
         length-0 = refl;
-        pages-least = legal .pages-least;
-        pages-most = legal .pages-most;
-        exponent-least = legal .exponent-least;
-        exponent-most = legal .exponent-most;
-        programs-least = legal .programs-least;
-        programs-most = legal .programs-most;
+        pages-least = counts .pages-least;
+        pages-most = counts .pages-most;
+        exponent-least = counts .exponent-least;
+        exponent-most = counts .exponent-most;
+        programs-least = counts .programs-least;
+        programs-most = counts .programs-most;
         shape-zero = refl;
-        memory-most = legal .memory-most;
+        memory-most = counts .memory-most;
         offset-1 = refl;
         length-1 = omega arith;
         offset-2 = omega arith;
         length-2 = omega arith;
-        ends = bytes-length d (legal .two-fields);
+        ends = bytes-length d (counts .two-fields);
         modes = ap areModes (programs-read (λ x. modeByte (x .mode)) modeAt mode-byte-read) ∙ are-modes (d .programs);
       }

@@ -14,13 +14,13 @@ use Rattle.machine.specs.declared.record.Program.{Program}
 use Rattle.machine.proofs.Sound.{sound-facts}
 use Rattle.machine.proofs.Written.{whole}
 use Rattle.image.specs.Bytes.{Bytes, wordAt}
-use Rattle.image.specs.Description.{Description, Legal, pad, liveOf, bytesOf, machineOf}
+use Rattle.image.specs.Description.{Description, Shaped, pad, liveOf, bytesOf, machineOf}
 use Rattle.image.specs.Load.{describe, loadOf, fieldAt, pageCount, programAt, programCount}
 use Rattle.image.specs.Write.{entryOf, countedFields, countedPrograms, descriptionOf, imageFor, writtenOf, bufferAfter, restarted}
 use Rattle.image.proofs.Entries.{entry-at, length-entries, length-pad, pad-at, pad-past}
 use Rattle.image.proofs.Loaded.{loaded}
 use Rattle.image.proofs.Passed.{passed}
-use Rattle.image.proofs.Reread.{Shaped, describe-bytes}
+use Rattle.image.proofs.Reread.{describe-bytes}
 use Rattle.image.proofs.Rewritten.{bytes-of-describe, describe-legal}
 use Rattle.image.proofs.RoundTrip.{shaped-loads}
 use Rattle.image.proofs.Writes.{Ready, too-short, done, ready, number-exactly, size, image-length, image-written, refused-keeps}
@@ -178,12 +178,12 @@ programs-back [] h k = absurd (omega arith)
 programs-back (x ∷ l) h k = ap (λ (t : List Program). x ∷ t) (pad-back noProgram 7 l (omega arith))
 
 -- the description of the machine of a description is that description
-redescribed : (d : Description) → Legal d → descriptionOf (machineOf d) ≡ d
+redescribed : (d : Description) → Shaped d → descriptionOf (machineOf d) ≡ d
 unfolding descriptionOf machineOf
-redescribed d legal =
+redescribed d counts =
     let fields : pad (2 * d .pages) 0 (pad 256 0 (d .fields)) ≡ d .fields =
-    rw (← legal .two-fields) (pad-back 0 256 (d .fields) (omega (arith, legal .two-fields, legal .pages-most))) in
-    rw (fields, programs-back (d .programs) (legal .programs-least) (legal .programs-most))
+    rw (← counts .two-fields) (pad-back 0 256 (d .fields) (omega (arith, counts .two-fields, counts .pages-most))) in
+    rw (fields, programs-back (d .programs) (counts .programs-least) (counts .programs-most))
 
 -- a machine that can be written and whose image is known
 module _ (m : Machine) (s buffer : List ℕ) (can : Ready m) (image : imageFor m ≡ s) where
@@ -224,5 +224,5 @@ loaded-writes s bytes loads buffer =
       no-depth = rw loads at (l .no-depth);
       flag-clear = rw loads at (l .flag-clear);
     } in
-    let image = ap bytesOf (redescribed (describe s) (describe-legal s bytes p)) ∙ bytes-of-describe s bytes p in
+    let image = ap bytesOf (redescribed (describe s) (describe-legal s bytes p .counts)) ∙ bytes-of-describe s bytes p in
     rw loads (written-as m s buffer can image, short-of m s buffer can image)

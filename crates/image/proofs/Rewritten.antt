@@ -151,14 +151,16 @@ module _ (s : List ℕ) (bytes : Bytes s) (passed : Passed s) where
       let n = programCount s in
       let count : length (programsOf s) ≡ n = length-entries 5 (programAt s) at n in
       record {
-        pages-least = passed .pages-least;
-        pages-most = passed .pages-most;
-        exponent-least = passed .exponent-least;
-        exponent-most = passed .exponent-most;
-        memory-most = passed .memory-most;
-        programs-least = rw count (passed .programs-least);
-        programs-most = rw count (passed .programs-most);
-        two-fields = length-entries 2 (fieldAt s) 22 (2 * pageCount s);
+        counts = record {
+          pages-least = passed .pages-least;
+          pages-most = passed .pages-most;
+          exponent-least = passed .exponent-least;
+          exponent-most = passed .exponent-most;
+          memory-most = passed .memory-most;
+          programs-least = rw count (passed .programs-least);
+          programs-most = rw count (passed .programs-most);
+          two-fields = length-entries 2 (fieldAt s) 22 (2 * pageCount s);
+        };
         fields-fit = each-entry 2 (fieldAt s) (λ w. w < 65536) 0 (omega arith) word-fits 22 (2 * pageCount s);
         contexts-fit = each-entry 5 (programAt s) (λ p. p .context < 65536) noProgram (omega arith) word-fits at n;
         masks-fit = each-entry 5 (programAt s) (λ p. p .mask < 65536) noProgram (omega arith) (λ place. word-fits (2 + place)) at n;

@@ -9,10 +9,10 @@ use Rattle.rules.specs.declared.registers.Mode.the-variants.{User, Privileged}
 use Rattle.machine.specs.Machine.{noProgram}
 use Rattle.machine.specs.declared.record.Program.{Program}
 use Rattle.image.specs.Bytes.{Bytes, word, bodies}
-use Rattle.image.specs.Description.{Description, Legal, entry, shape, modeByte, programBytes, bytesOf, machineOf}
+use Rattle.image.specs.Description.{Description, Shaped, Legal, entry, shape, modeByte, programBytes, bytesOf, machineOf}
 use Rattle.image.specs.Load.{describe, loadOf}
 use Rattle.image.proofs.Passed.{passed, passes}
-use Rattle.image.proofs.Reread.{Shaped, legal-shaped, describe-bytes, bytes-pass}
+use Rattle.image.proofs.Reread.{describe-bytes, bytes-pass}
 use Rattle.image.proofs.Rewritten.{bytes-of-describe, describe-legal}
 
 -- a string is the image of a description
@@ -72,13 +72,13 @@ legal-bytes d legal =
     (λ i. program-bytes (getD (d .programs) i noProgram) (legal .contexts-fit i) (legal .masks-fit i)) in
     pointwise (join (join e₀ (join e₁ e₂)) (join s (join f q)))
 
--- the bytes of a legal description load to its machine
+-- the bytes of a description load to its machine where its counts are in range, and so do those of a legal one
 pub shaped-loads : (d : Description) → Shaped d → loadOf (bytesOf d) ≡ record { number = 0; machine = machineOf d }
 unfolding loadOf
 shaped-loads d counts = rw (passes (bytesOf d) (bytes-pass d counts), describe-bytes d counts)
 
 pub legal-loads : (d : Description) → Legal d → loadOf (bytesOf d) ≡ record { number = 0; machine = machineOf d }
-legal-loads d legal = shaped-loads d (legal-shaped d legal)
+legal-loads d legal = shaped-loads d (legal .counts)
 
 -- whatever loads is the image of a description, and of one only
 pub loads-one : (s : List ℕ) → Bytes s → loadOf s .number ≡ 0
@@ -88,5 +88,5 @@ loads-one s bytes loads =
     let p = passed s loads in (
       describe s,
       record { legal = describe-legal s bytes p; written = bytes-of-describe s bytes p },
-      (λ e image. sym (describe-bytes e (legal-shaped e (image .legal))) ∙ ap describe (image .written)),
+      (λ e image. sym (describe-bytes e (image .legal .counts)) ∙ ap describe (image .written)),
     )

@@ -48,8 +48,8 @@ bytesOf d =
     ++ (shape (d .pages) (d .exponent) (length (d .programs))
     ++ (bodies word (d .fields) ++ bodies programBytes (d .programs)))
 
--- RULES 5.11: the choices that have an image: ranges as in 1.2, two fields for each page, numbers of 16 bits
-pub record Legal (d : Description) : Type 0 where
+-- RULES 5.11: counts within the ranges of 1.2, and two fields for each page
+pub record Shaped (d : Description) : Type 0 where
   pub pages-least : 1 ≤ d .pages
   pub pages-most : d .pages ≤ 128
   pub exponent-least : 5 ≤ d .exponent
@@ -58,6 +58,10 @@ pub record Legal (d : Description) : Type 0 where
   pub programs-least : 1 ≤ length (d .programs)
   pub programs-most : length (d .programs) ≤ 8
   pub two-fields : length (d .fields) ≡ 2 * d .pages
+
+-- RULES 5.11: the choices that have an image: such counts, and numbers of 16 bits
+pub record Legal (d : Description) : Type 0 where
+  pub counts : Shaped d
   pub fields-fit : (i : ℕ) → getD (d .fields) i 0 < 65536
   pub contexts-fit : (i : ℕ) → getD (d .programs) i noProgram .context < 65536
   pub masks-fit : (i : ℕ) → getD (d .programs) i noProgram .mask < 65536

@@ -1,16 +1,16 @@
 -- The third demand holds: two histories alike in the chosen program's turns show it what these turns alone show, from any machine
 -- that a legal image loads to.
-use Prim.Native.Nat.{ℕ, suc, zero, _<_}
+use Prim.Native.Nat.{ℕ, _<_}
 use mathlib.Core.Path.{_≡_, refl, sym, ap, subst, _∙_}
 use mathlib.Core.Bool.{Bool, true, false}
-use mathlib.Core.List.{List, [], _∷_}
+use mathlib.Core.List.{List}
 use borrow.Author.Tests.{ltb-true, ltb-false}
 use native.Mathlib.Omega.{arith}
 use lib.Dec.{ltb}
-use lib.ListN.{length, getD, List·getD-eq-default}
+use lib.ListN.{getD, List·getD-eq-default}
 use Rattle.image.specs.Description.{Description, Legal, machineOf, pad, bytesOf}
 use Rattle.image.specs.Load.{loadOf}
-use Rattle.image.proofs.Entries.{pad-at}
+use Rattle.image.proofs.Entries.{length-pad, pad-at}
 use Rattle.image.proofs.Loaded.{loaded}
 use Rattle.image.proofs.RoundTrip.{legal-loads, loads-one}
 use Rattle.machine.specs.Machine.{isSound, noProgram}
@@ -29,11 +29,6 @@ isolation start chosen s below apart one two within within′ alike =
     history-alone start chosen apart small below s one within ∙ ap (alone start chosen) alike
     ∙ sym (history-alone start chosen apart small below s two within′)
 
-pad-long : {A : Type 0} (n : ℕ) (z : A) (l : List A) → length (pad n z l) ≡ n
-pad-long zero z l = refl
-pad-long (suc n) z [] = ap suc (pad-long n z [])
-pad-long (suc n) z (x ∷ l) = ap suc (pad-long n z l)
-
 -- the machine of a legal description is one that a history starts on
 legal-started : (d : Description) → Legal d → Started (machineOf d)
 unfolding machineOf
@@ -43,7 +38,7 @@ legal-started d legal =
     record {
       sound = subst (λ (m : Machine). isSound m ≡ true) e (l .sound);
       depth = refl;
-      table-long = pad-long 8 noProgram (d .programs);
+      table-long = length-pad noProgram 8 (d .programs);
       saved-long = refl;
       live = ap registersOf (sym (pad-at noProgram 8 (d .programs) 0 (omega arith)));
       contexts-small = λ program. split program (ltb program 8) refl;
@@ -53,7 +48,7 @@ legal-started d legal =
     split program true e = rw (pad-at noProgram 8 (d .programs) program (ltb-true program 8 e)) (legal .contexts-fit program)
     split program false e =
         let past = ltb-false program 8 e in
-        let long = pad-long 8 noProgram (d .programs) in
+        let long = length-pad noProgram 8 (d .programs) in
         rw (List·getD-eq-default (pad 8 noProgram (d .programs)) noProgram {n = program} (omega arith)) (omega arith)
 
 pub third-demand : ThirdDemand
