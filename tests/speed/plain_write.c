@@ -34,12 +34,14 @@ static inline void put_program(uint8_t *bytes, uint16_t context, uint16_t mask,
     bytes[4] = privileged;
 }
 
-/* The image that starts the machine (RULES 5.14 to 5.16). It stays a call of
- * its own, so that no work of one writing is left out of the next. */
-static __attribute__((noinline)) uint8_t machine_write(const struct machine *m,
-                                                       uint8_t *out,
-                                                       size_t room,
-                                                       size_t *count)
+/*
+ * The image that starts the machine (RULES 5.14 to 5.16). The buffer is no part
+ * of the machine, which the compiler may use. It stays a call of its own, so that
+ * the load before it is the same with and without it.
+ */
+static __attribute__((noinline)) uint8_t
+machine_write(const struct machine *m, uint8_t *restrict out, size_t room,
+              size_t *count)
 {
     *count = 0;
     if (!sound(m))

@@ -15,6 +15,7 @@ use Rattle.image.specs.Description.{machineOf, bytesOf}
 use Rattle.image.specs.Load.{loadOf, loadChecks, lengthTests, kindTests, shapeEntryTests, shapeTests, bodyTests, describe}
 use Rattle.image.specs.Sample.{sampleBytes}
 use Rattle.image.specs.Write.{descriptionOf, writeChecks, writtenBytes, writtenOf}
+use Rattle.image.proofs.Pinned.{nothing}
 use Rattle.run.specs.Records.{callOfKind, callsOf, stepBy}
 use Rattle.run.specs.declared.records.Decoded.the-variants.{Known, Unknown}
 use Rattle.cases.specs.Writing.{roomOf, digitOf, digitsOf, machineAfter, heldOf, againOf, rewrittenOf}
@@ -50,9 +51,6 @@ abbrev node : ℕ → ℕ → Bool → Machine
 node mask first pending =
     whole 3 8 (0x0009 ∷ 0x0000 ∷ 0x000A ∷ 0x0002 ∷ 0x000C ∷ 0x0004 ∷ replicate 250 0) (live 7 mask User pending) 0 (replicate 8 false) 2 0
     (stored 7 first User ∷ stored 8 0xFFFF User ∷ replicate 6 (stored 0 0 User))
-
-abbrev nothing : Machine
-nothing = whole 0 0 (replicate 256 0) (live 0 0 User false) 0 (replicate 8 false) 0 0 (replicate 8 (stored 0 0 User))
 
 -- READ of address 256, which domain 1 holds, and a mask without domain 1; then a remainder
 abbrev calls : List ℕ

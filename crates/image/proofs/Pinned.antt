@@ -48,7 +48,7 @@ unfolding machineOf
 no-program-live = refl
 
 -- "every number is zero, every mode user and the flag clear": after each of the six refusals
-abbrev nothing : Machine
+abbrev pub nothing : Machine
 nothing = resting 0 0 (replicate 256 0) (live 0 0 User false) 0 (replicate 8 (stored 0 0 User))
 
 pub refused-written :

@@ -102,7 +102,7 @@ module _ (m : Machine) (sound : isSound m ≡ true) where
 live-again : (r : Registers) → r .pending ≡ false → liveOf (entryOf r) ≡ r
 live-again r clear = rw clear
 
--- machines that differ in the names of two parts alone
+-- machines with equal registers and equal program counts, all else the same, are equal
 same-parts : (pages exponent : ℕ) (fields : List ℕ) (saved : List Bool) (table : List Program)
     → {live live′ : Registers} {programs programs′ : ℕ} → live ≡ live′ → programs ≡ programs′
     → whole pages exponent fields live 0 saved programs 0 table ≡ whole pages exponent fields live′ 0 saved programs′ 0 table

@@ -49,18 +49,18 @@ sets-part l at s part e =
 -- a loop that stores the bodies of a list in n places, one after another, each of one size
 module _ {A : Type 0} (size : ℕ) (write : A → List ℕ) (z : A) (n : ℕ) (l : List A) (start : List ℕ) where
   -- what holds before body i: the bodies that are left, stored from here on, give the buffer that is promised
-  pub record Left (out : List ℕ) (i : ℕ) : Type 0 where
+  pub record Storing (out : List ℕ) (i : ℕ) : Type 0 where
     pub within : i ≤ n
     pub long : length out ≡ length start
     pub rest : sets out (size * i) (bodies write (drop i (pad n z l))) ≡ sets start 0 (bodies write (pad n z l))
 
-  pub left-all : Left start 0
-  left-all = record { within = omega arith; long = refl; rest = rw mul-zero }
+  pub storing-starts : Storing start 0
+  storing-starts = record { within = omega arith; long = refl; rest = rw mul-zero }
 
   -- body i was stored at its place
-  pub left-next : ((x : A) → length (write x) ≡ size) → (out next : List ℕ) (i : ℕ) → Left out i → i < n
-      → next ≡ sets out (size * i) (write (getD l i z)) → Left next (i + 1)
-  left-next sized out next i left h e =
+  pub storing-next : ((x : A) → length (write x) ≡ size) → (out next : List ℕ) (i : ℕ) → Storing out i → i < n
+      → next ≡ sets out (size * i) (write (getD l i z)) → Storing next (i + 1)
+  storing-next sized out next i left h e =
       let all = pad n z l in
       record {
         within = omega arith;
@@ -73,5 +73,5 @@ module _ {A : Type 0} (size : ℕ) (write : A → List ℕ) (z : A) (n : ℕ) (l
             ∙ left .rest);
       }
 
-  pub left-none : (out : List ℕ) (i : ℕ) → Left out i → n ≤ i → out ≡ sets start 0 (bodies write (pad n z l))
-  left-none out i left h = rw (drop-of-length-le (pad n z l) {i = i} (rw (length-pad z n l) h)) at (left .rest)
+  pub storing-ends : (out : List ℕ) (i : ℕ) → Storing out i → n ≤ i → out ≡ sets start 0 (bodies write (pad n z l))
+  storing-ends out i left h = rw (drop-of-length-le (pad n z l) {i = i} (rw (length-pad z n l) h)) at (left .rest)

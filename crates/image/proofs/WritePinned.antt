@@ -17,20 +17,16 @@ use Rattle.image.specs.Bytes.{bodies}
 use Rattle.image.specs.Description.{bytesOf, pad}
 use Rattle.image.specs.Write.{descriptionOf, imageFor, writeChecks, writtenBytes, writtenOf, bufferAfter, restarted}
 use Rattle.image.specs.declared.writer.Written.{Written}
-use Rattle.image.proofs.Pinned.{long-bytes}
+use Rattle.image.proofs.Pinned.{nothing, long-bytes}
 
 -- two pages of 64 bytes, two programs; every place past a count is full, program 0's stored entry differs from the live registers
-abbrev busy : (current depth : ℕ) → Mode → Bool → Machine
-busy current depth mode pending =
+abbrev standing : (current depth : ℕ) → Mode → Bool → Machine
+standing current depth mode pending =
     whole 2 6 (0x1234 ∷ 0x5678 ∷ 0x9ABC ∷ 0xDEF0 ∷ replicate 252 0x2222) (live 0x0102 0x0304 mode pending) depth (replicate 8 true) 2 current
     (stored 0xAAAA 0xBBBB User ∷ stored 0x0506 0x0708 User ∷ replicate 6 (stored 0xCCCC 0xDDDD Privileged))
 
--- every number zero, every mode user, the flag clear
-abbrev nothing : Machine
-nothing = whole 0 0 (replicate 256 0) (live 0 0 User false) 0 (replicate 8 false) 0 0 (replicate 8 (stored 0 0 User))
-
 abbrev node : Machine
-node = busy 0 0 Privileged false
+node = standing 0 0 Privileged false
 
 -- its 40 bytes
 abbrev bytes : List ℕ
@@ -68,42 +64,41 @@ node-written = refl
 
 -- a refusal keeps every byte of a buffer that is long enough, and of one that is too short
 pub refused-kept :
-    let all = busy 1 0 User false ∷ busy 0 1 Privileged false ∷ busy 0 0 User true ∷ busy 0 0 Privileged true ∷ [] in
+    let all = standing 1 0 User false ∷ standing 0 1 Privileged false ∷ standing 0 0 User true ∷ standing 0 0 Privileged true ∷ [] in
     (map (λ (m : Machine). outcome m (replicate 41 0xEE)) all
     ≡ due 26 0 (replicate 41 0xEE) ∷ due 26 0 (replicate 41 0xEE) ∷ due 26 0 (replicate 41 0xEE) ∷ due 1 0 (replicate 41 0xEE) ∷ [])
     × (map (λ (m : Machine). outcome m (7 ∷ [])) all ≡ due 26 0 (7 ∷ []) ∷ due 26 0 (7 ∷ []) ∷ due 26 0 (7 ∷ []) ∷ due 1 0 (7 ∷ []) ∷ [])
 unfolding writtenOf bufferAfter writtenBytes writeChecks descriptionOf bytesOf isSound
 refused-kept = (refl, refl)
 
--- machines that are not sound: the all-zero one and one of exponent 4, both at rest, in a buffer long enough and in none; those that are not at rest
--- either; then each reason for 26 alone, two and all three of
--- them, each in a buffer long enough and in none; then none of them
+-- machines that are not sound, at rest and not; each reason for 26 alone, in pairs and all three; then a machine at rest. Each stands in 40 bytes, which are
+-- enough, and some of them also in fewer.
 pub write-order :
     map (λ (row : Machine × ℕ). writtenOf (row .0) (row .1) .number)
     ((nothing, 40)
     ∷ (nothing, 0)
     ∷ (whole 2 4 (replicate 256 0) (live 1 1 User false) 0 (replicate 8 false) 2 0 (replicate 8 (stored 1 1 User)), 40)
-    ∷ (busy 0 9 User false, 40)
-    ∷ (busy 2 0 User false, 40)
-    ∷ (busy 0 0 Privileged true, 40)
-    ∷ (busy 0 0 Privileged true, 39)
-    ∷ (busy 1 1 Privileged true, 40)
-    ∷ (busy 1 0 User false, 40)
-    ∷ (busy 1 0 User false, 39)
-    ∷ (busy 0 1 User false, 40)
-    ∷ (busy 0 1 Privileged false, 0)
-    ∷ (busy 0 8 User false, 40)
-    ∷ (busy 0 0 User true, 40)
-    ∷ (busy 0 0 User true, 0)
-    ∷ (busy 1 1 User false, 40)
-    ∷ (busy 1 0 User true, 40)
-    ∷ (busy 0 1 User true, 40)
-    ∷ (busy 1 1 User true, 40)
-    ∷ (busy 1 8 User true, 0)
-    ∷ (busy 0 0 User false, 40)
-    ∷ (busy 0 0 User false, 41)
-    ∷ (busy 0 0 User false, 39)
-    ∷ (busy 0 0 User false, 0)
+    ∷ (standing 0 9 User false, 40)
+    ∷ (standing 2 0 User false, 40)
+    ∷ (standing 0 0 Privileged true, 40)
+    ∷ (standing 0 0 Privileged true, 39)
+    ∷ (standing 1 1 Privileged true, 40)
+    ∷ (standing 1 0 User false, 40)
+    ∷ (standing 1 0 User false, 39)
+    ∷ (standing 0 1 User false, 40)
+    ∷ (standing 0 1 Privileged false, 0)
+    ∷ (standing 0 8 User false, 40)
+    ∷ (standing 0 0 User true, 40)
+    ∷ (standing 0 0 User true, 0)
+    ∷ (standing 1 1 User false, 40)
+    ∷ (standing 1 0 User true, 40)
+    ∷ (standing 0 1 User true, 40)
+    ∷ (standing 1 1 User true, 40)
+    ∷ (standing 1 8 User true, 0)
+    ∷ (standing 0 0 User false, 40)
+    ∷ (standing 0 0 User false, 41)
+    ∷ (standing 0 0 User false, 39)
+    ∷ (standing 0 0 User false, 0)
     ∷ [])
     ≡ 1 ∷ 1 ∷ 1 ∷ 1 ∷ 1 ∷ 1 ∷ 1 ∷ 1 ∷ 26 ∷ 26 ∷ 26 ∷ 26 ∷ 26 ∷ 26 ∷ 26 ∷ 26 ∷ 26 ∷ 26 ∷ 26 ∷ 26 ∷ 0 ∷ 0 ∷ 27 ∷ 27 ∷ []
 unfolding writtenOf writeChecks descriptionOf bytesOf isSound

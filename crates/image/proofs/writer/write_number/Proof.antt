@@ -1,10 +1,10 @@
 -- `image::writer::write_number` meets its contract: each condition is the one of its number; a sound machine's counts are bytes.
 use mathlib.Core.Path.{_≡_, sym, _∙_}
+use mathlib.Core.Bool.{true}
 use borrow.Author.Needs.{needs}
 use native.Mathlib.Omega.{arith}
 use Rattle.machine.proofs.Sound.{sound-facts}
 use Rattle.machine.specs.Machine.{isSound}
-use mathlib.Core.Bool.{true}
 use Rattle.image.specs.Write.{writeChecks}
 use Rattle.image.proofs.Writes.{image-length}
 use Rattle.image.proofs.writer.write_number.Statement.{statement}

@@ -6,12 +6,12 @@ use borrow.Author.Needs.{needs}
 use native.Mathlib.Omega.{arith}
 use lib.Seq.{sets}
 use Rattle.image.specs.Bytes.{word}
-use Rattle.image.proofs.Stored.{Left, left-all, left-next, left-none}
+use Rattle.image.proofs.Stored.{Storing, storing-starts, storing-next, storing-ends}
 use Rattle.image.proofs.writer.write_pages.Statement.{statement}
 use Rattle.image.proofs.writer.write_pages.Tie as tie
 
 abbrev Inv-loop : tie.InvT-loop
-Inv-loop out₀ fields count i₀ out i = Left 2 word 0 count fields out₀ out i
+Inv-loop out₀ fields count i₀ out i = Storing 2 word 0 count fields out₀ out i
 
 abbrev μ-loop : tie.MeasureT-loop
 μ-loop out₀ fields count i₀ out i = count - i
@@ -22,16 +22,16 @@ loop-again c =
     let reading : tie.After-read-field Inv-loop μ-loop = (search) in
     let putting : tie.After-put-word Inv-loop μ-loop = (search) in
     let l = looping .loop in
-    left-next 2 word 0 _ _ _ (λ x. refl) (l .out) _ (l .i) (l .inv) (omega arith)
+    storing-next 2 word 0 _ _ _ (λ x. refl) (l .out) _ (l .i) (l .inv) (omega arith)
     (putting .put-word .ensures ∙ ap (λ x. sets (l .out) (2 * l .i) (word x)) (reading .read-field .ensures))
 
 returns : tie.Need-returns Inv-loop μ-loop
 returns c =
     let l = c .before .loop in
-    left-none 2 word 0 _ _ _ (l .out) (l .i) (l .inv) (omega arith)
+    storing-ends 2 word 0 _ _ _ (l .out) (l .i) (l .inv) (omega arith)
 
 pub write-pages-spec : {M : Type 1} → statement M
 write-pages-spec =
     tie.close
-    (tie.spec Inv-loop μ-loop (λ c. left-all 2 word 0 _ _ _) (λ c. search needs) (λ c κs. search needs) (λ c κs. search needs)
+    (tie.spec Inv-loop μ-loop (λ c. storing-starts 2 word 0 _ _ _) (λ c. search needs) (λ c κs. search needs) (λ c κs. search needs)
     (λ c. search needs) (λ c. search needs) loop-again (λ c. search needs) returns)

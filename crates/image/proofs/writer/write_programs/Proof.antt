@@ -7,12 +7,12 @@ use native.Mathlib.Omega.{arith}
 use lib.Seq.{sets}
 use Rattle.machine.specs.Machine.{noProgram}
 use Rattle.image.specs.Description.{programBytes}
-use Rattle.image.proofs.Stored.{Left, left-all, left-next, left-none}
+use Rattle.image.proofs.Stored.{Storing, storing-starts, storing-next, storing-ends}
 use Rattle.image.proofs.writer.write_programs.Statement.{statement}
 use Rattle.image.proofs.writer.write_programs.Tie as tie
 
 abbrev Inv-loop : tie.InvT-loop
-Inv-loop out₀ table count i₀ out i = Left 5 programBytes noProgram count table out₀ out i
+Inv-loop out₀ table count i₀ out i = Storing 5 programBytes noProgram count table out₀ out i
 
 abbrev μ-loop : tie.MeasureT-loop
 μ-loop out₀ table count i₀ out i = count - i
@@ -23,16 +23,16 @@ loop-again c =
     let reading : tie.After-read-program Inv-loop μ-loop = (search) in
     let putting : tie.After-put-program Inv-loop μ-loop = (search) in
     let l = looping .loop in
-    left-next 5 programBytes noProgram _ _ _ (λ x. refl) (l .out) _ (l .i) (l .inv) (omega arith)
+    storing-next 5 programBytes noProgram _ _ _ (λ x. refl) (l .out) _ (l .i) (l .inv) (omega arith)
     (putting .put-program .ensures ∙ ap (λ x. sets (l .out) (5 * l .i) (programBytes x)) (reading .read-program .ensures))
 
 returns : tie.Need-returns Inv-loop μ-loop
 returns c =
     let l = c .before .loop in
-    left-none 5 programBytes noProgram _ _ _ (l .out) (l .i) (l .inv) (omega arith)
+    storing-ends 5 programBytes noProgram _ _ _ (l .out) (l .i) (l .inv) (omega arith)
 
 pub write-programs-spec : {M : Type 1} → statement M
 write-programs-spec =
     tie.close
-    (tie.spec Inv-loop μ-loop (λ c. left-all 5 programBytes noProgram _ _ _) (λ c. search needs) (λ c. search needs) (λ c κs. search needs)
+    (tie.spec Inv-loop μ-loop (λ c. storing-starts 5 programBytes noProgram _ _ _) (λ c. search needs) (λ c. search needs) (λ c κs. search needs)
     (λ c κs. search needs) (λ c. search needs) (λ c. search needs) loop-again (λ c. search needs) returns)
