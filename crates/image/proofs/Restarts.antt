@@ -72,7 +72,7 @@ module _ (m : Machine) (sound : isSound m ≡ true) where
       ∙ ap (λ (d : Description). getD (d .fields) i 0) read
       ∙ pad-at 0 (2 * m .pages) (m .fields) i h
 
-  -- RULES 5.6, 5.14: where each program stands in it
+  -- the program that is read at each program's place
   program-read : (i : ℕ) → i < m .programs
       → programAt (imageFor m) (22 + 4 * m .pages + 5 * i) ≡ getD (entryOf (m .registers) ∷ drop 1 (m .table)) i noProgram
   unfolding describe descriptionOf
@@ -87,6 +87,7 @@ module _ (m : Machine) (sound : isSound m ≡ true) where
       ∙ ap (λ (d : Description). getD (d .programs) i noProgram) read
       ∙ pad-at noProgram (m .programs) (entryOf (m .registers) ∷ drop 1 (m .table)) i h)
 
+  -- RULES 5.6, 5.14: at program 0's place stand the live registers
   pub live-written :
       programAt (imageFor m) (22 + 4 * m .pages)
       ≡ record { context = m .registers .context; mask = m .registers .mask; mode = m .registers .mode }
@@ -94,6 +95,7 @@ module _ (m : Machine) (sound : isSound m ≡ true) where
       let first : 22 + 4 * m .pages + 5 * 0 ≡ 22 + 4 * m .pages = omega arith in
       rw first at (program-read 0 (sound-facts m sound .programs-least))
 
+  -- RULES 5.6, 5.14: at the place of each other program stands its stored entry
   pub program-written : (i : ℕ) → 1 ≤ i → i < m .programs
       → programAt (imageFor m) (22 + 4 * m .pages + 5 * i) ≡ getD (m .table) i noProgram
   program-written i h k = program-read i k ∙ later (entryOf (m .registers)) (m .table) i h
@@ -143,6 +145,7 @@ pub record Restarts (m r : Machine) : Type 0 where
   pub entry-kept : (i : ℕ) → 1 ≤ i → i < m .programs → getD (r .table) i noProgram ≡ getD (m .table) i noProgram
   pub no-entry : (i : ℕ) → m .programs ≤ i → getD (r .table) i noProgram ≡ noProgram
 
+-- RULES 5.17: a machine that was written starts again so
 pub restarts : (m : Machine) (room : ℕ) → writtenOf m room .number ≡ 0 → Restarts m (restarted m)
 unfolding restarted writtenOf
 restarts m room accepted =

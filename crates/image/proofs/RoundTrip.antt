@@ -72,11 +72,12 @@ legal-bytes d legal =
     (λ i. program-bytes (getD (d .programs) i noProgram) (legal .contexts-fit i) (legal .masks-fit i)) in
     pointwise (join (join e₀ (join e₁ e₂)) (join s (join f q)))
 
--- the bytes of a description load to its machine where its counts are in range, and so do those of a legal one
+-- the bytes of a description whose counts are in range load to its machine
 pub shaped-loads : (d : Description) → Shaped d → loadOf (bytesOf d) ≡ record { number = 0; machine = machineOf d }
 unfolding loadOf
 shaped-loads d counts = rw (passes (bytesOf d) (bytes-pass d counts), describe-bytes d counts)
 
+-- RULES 5.11: the bytes of a legal description load to its machine
 pub legal-loads : (d : Description) → Legal d → loadOf (bytesOf d) ≡ record { number = 0; machine = machineOf d }
 legal-loads d legal = shaped-loads d (legal .counts)
 
