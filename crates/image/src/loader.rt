@@ -8,8 +8,11 @@ use crate::refusals::load_number;
 use crate::refusals::program_place;
 use machine::calls::mode_of;
 use machine::record::Answered;
+use machine::record::LastViolation;
 use machine::record::Machine;
 use machine::record::Program;
+use machine::record::Report;
+use machine::record::Violations;
 use rules::registers::Mode;
 use rules::registers::Registers;
 ghost use mathlib.Core.Path.{_≡_};
@@ -84,6 +87,9 @@ fn machine_of(bytes: &[u8]) -> Machine
         programs: byte_at(bytes, 20) as u16,
         current: 0,
         table,
+        violations: Violations {
+            last: LastViolation::Absent,
+        },
     }
 }
 
@@ -97,10 +103,12 @@ pub fn load(bytes: &[u8]) -> Answered
         return Answered {
             number,
             machine: machine_of(bytes),
+            report: Report::Nothing,
         };
     }
     Answered {
         number,
         machine: Machine::zero(),
+        report: Report::Nothing,
     }
 }

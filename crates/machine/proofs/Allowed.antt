@@ -12,8 +12,8 @@ use native.Mathlib.Nat.{div-lt-iff-lt-mul, le-div-iff-mul-le, div-mul-le-self, l
 use native.Mathlib.Omega.{arith}
 use Rattle.rules.specs.Registers.{localContext}
 use Rattle.rules.specs.Refusals.{Check, _⇒_, first, pick}
-use Rattle.machine.specs.Machine.{isSound, memorySize, fieldOf}
-use Rattle.machine.specs.Calls.{accessChecks, checksOf, isRight, inPrivilegedMode, numberOf}
+use Rattle.machine.specs.Machine.{isRight, isSound, memorySize, fieldOf}
+use Rattle.machine.specs.Calls.{accessChecks, checksOf, inPrivilegedMode, numberOf}
 use Rattle.machine.specs.declared.record.Machine.{Machine}
 use Rattle.machine.specs.declared.record.Call.the-variants.{Access}
 use Rattle.machine.proofs.Answers.{accepted, metAt, unmet}

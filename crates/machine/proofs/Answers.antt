@@ -12,12 +12,15 @@ use Rattle.rules.specs.Registers.{withPending}
 use Rattle.rules.specs.Domains.{prevailing, withBit, withoutBit}
 use Rattle.rules.specs.Refusals.{Check, _⇒_, first, pick}
 use Rattle.rules.specs.declared.registers.Registers.{Registers}
-use Rattle.machine.specs.Machine.{isSound, fieldOf, placeOf, withFields, withRegisters, withStack, withPrograms}
-use Rattle.machine.specs.Calls.{callOf, uncheckedOf, answerBy, ownNumberOf, changeCall, checksOf, changeChecks, effectOf, numberOf, after, violated}
+use Rattle.machine.specs.Machine.{isSound, fieldOf, placeOf, withFields, withRegisters, withStack, withPrograms, withLast}
+use Rattle.machine.specs.Calls.{callOf, uncheckedOf, answerBy, silent, ownNumberOf, changeCall, checksOf, changeChecks, effectOf, deniedBy, reportOf, numberOf, after, violated}
 use Rattle.machine.specs.declared.record.Machine.{Machine}
 use Rattle.machine.specs.declared.record.Program.{Program}
 use Rattle.machine.specs.declared.record.Page.{Page}
 use Rattle.machine.specs.declared.record.Domain.{Domain}
+use Rattle.machine.specs.declared.record.LastViolation.{LastViolation}
+use Rattle.machine.specs.declared.record.Report.{Report}
+use Rattle.machine.specs.declared.record.Report.the-variants.{Nothing}
 use Rattle.machine.specs.declared.record.Answered.{Answered}
 use Rattle.machine.specs.declared.record.Call.{Call}
 use Rattle.machine.specs.declared.record.Call.the-variants.{Access, Enter, Return, Switch}
@@ -55,23 +58,23 @@ unmet zero ((false ⇒ number) ∷ rest) h none = refl
 unmet (suc k) ((false ⇒ number) ∷ rest) h none = unmet k rest (and-both (not (eqb number 0)) (refuses rest) h .1) none
 
 -- the machine after a call, by its three cases
-pub after-cases : (P : Machine → Type 0) (n : ℕ) (m effect : Machine) → (n ≡ 0 → P effect) → (n ≡ 9 → P (violated m)) → P m
-    → P (after n m effect)
+pub after-cases : (P : Machine → Type 0) (n : ℕ) (m : Machine) (call : Call) → (n ≡ 0 → P (effectOf m call))
+    → (n ≡ 9 → P (violated m call)) → P m → P (after n m call)
 unfolding after
-after-cases P n m effect done violation same = split (eqb n 0) refl (eqb n 9) refl
+after-cases P n m call done violation same = split (eqb n 0) refl (eqb n 9) refl
   where
-    split : (b : Bool) → eqb n 0 ≡ b → (d : Bool) → eqb n 9 ≡ d → P (pick b effect (pick d (violated m) m))
+    split : (b : Bool) → eqb n 0 ≡ b → (d : Bool) → eqb n 9 ≡ d → P (pick b (effectOf m call) (pick d (violated m call) m))
     split true e d f = done (eqb-true n 0 e)
     split false e true f = violation (eqb-true n 9 f)
     split false e false f = same
 
 -- two machines after calls of one number
-pub after-both : (R : Machine → Machine → Type 0) (n : ℕ) {m m′ effect effect′ : Machine}
-    → R effect effect′ → R (violated m) (violated m′) → R m m′ → R (after n m effect) (after n m′ effect′)
+pub after-both : (R : Machine → Machine → Type 0) (n : ℕ) (call : Call) {m m′ : Machine}
+    → R (effectOf m call) (effectOf m′ call) → R (violated m call) (violated m′ call) → R m m′ → R (after n m call) (after n m′ call)
 unfolding after
-after-both R n {m} {m′} {effect} {effect′} done violation same = split (eqb n 0) (eqb n 9)
+after-both R n call {m} {m′} done violation same = split (eqb n 0) (eqb n 9)
   where
-    split : (b d : Bool) → R (pick b effect (pick d (violated m) m)) (pick b effect′ (pick d (violated m′) m′))
+    split : (b d : Bool) → R (pick b (effectOf m call) (pick d (violated m call) m)) (pick b (effectOf m′ call) (pick d (violated m′ call) m′))
     split true d = done
     split false true = violation
     split false false = same
@@ -92,12 +95,12 @@ module _ (m : Machine) (call : Call) where
       split false h = absurd (omega arith)
 
   -- a call is the one without the check for 1 behind one test for soundness: 1, and the machine as it was, where it is not sound
-  pub call-checked : callOf m call ≡ pick (isSound m) (uncheckedOf m call) (record { number = 1; machine = m })
+  pub call-checked : callOf m call ≡ pick (isSound m) (uncheckedOf m call) (silent 1 m)
   unfolding callOf uncheckedOf after
   call-checked = split (isSound m)
     where
       split : (b : Bool)
-          → answerBy (pick (not b) 1 (ownNumberOf m call)) m call ≡ pick b (uncheckedOf m call) (record { number = 1; machine = m })
+          → answerBy (pick (not b) 1 (ownNumberOf m call)) m call ≡ pick b (uncheckedOf m call) (silent 1 m)
       split true = refl
       split false = refl
 
@@ -106,29 +109,46 @@ module _ (m : Machine) (call : Call) where
   sound-unchecked sound = rw (call-checked, sound)
 
   -- the two ends of a public method, from the test for soundness
-  pub unsound-answers : {sound : Bool} → sound ≡ isSound m → not sound ≡ true → record { number = 1; machine = m } ≡ callOf m call
+  pub unsound-answers : {sound : Bool} → sound ≡ isSound m → not sound ≡ true → silent 1 m ≡ callOf m call
   unsound-answers {sound} tested not-sound = rw (call-checked, ← tested, not-true sound not-sound)
 
   pub sound-answers : {sound : Bool} {r : Answered} → sound ≡ isSound m → not sound ≡ false → r ≡ uncheckedOf m call → r ≡ callOf m call
   sound-answers {sound} tested is-sound answer = answer ∙ sym (sound-unchecked (sym tested ∙ not-false sound is-sound))
 
   -- a call that never answers 9 and leaves its effect where it is done and the machine as it was where it is refused
-  pub answered : {n : ℕ} {end : Machine} → n ≡ ownNumberOf m call → avoids 9 (checksOf m call) ≡ true
-      → end ≡ pick (eqb n 0) (effectOf m call) m
-      → _≡_ {A = Answered} (record { number = n; machine = end }) (uncheckedOf m call)
+  pub answered : {n : ℕ} {end : Machine} {report : Report} → n ≡ ownNumberOf m call → avoids 9 (checksOf m call) ≡ true
+      → end ≡ pick (eqb n 0) (effectOf m call) m → report ≡ pick (eqb n 0) (reportOf m call) Nothing
+      → _≡_ {A = Answered} (record { number = n; machine = end; report = report }) (uncheckedOf m call)
   unfolding uncheckedOf after
-  answered {n} {end} number never changed =
+  answered {n} {end} {report} number never changed reports =
       let nine = first-avoids 9 (checksOf m call) never in
-      rw (changed, number, nine)
+      rw (changed, reports, number, nine)
+
+  -- one that changes nothing
+  pub same-answered : {n : ℕ} {report : Report} → n ≡ ownNumberOf m call → avoids 9 (checksOf m call) ≡ true → effectOf m call ≡ m
+      → report ≡ pick (eqb n 0) (reportOf m call) Nothing
+      → _≡_ {A = Answered} (record { number = n; machine = m; report = report }) (uncheckedOf m call)
+  same-answered {n} number never effect reports = answered number never (rw effect (split (eqb n 0))) reports
+    where
+      split : (b : Bool) → m ≡ pick b m m
+      split true = refl
+      split false = refl
+
+  -- a call that has nothing to report reports nothing, by whatever number
+  pub unreported : (n : ℕ) → reportOf m call ≡ Nothing → Nothing ≡ pick (eqb n 0) (reportOf m call) Nothing
+  unreported n none = rw none (split (eqb n 0))
+    where
+      split : (b : Bool) → _≡_ {A = Report} Nothing (pick b Nothing Nothing)
+      split true = refl
+      split false = refl
 
   -- an answer by any number but 9, in its two cases: the call is done, or it is refused
-  pub done : {n k : ℕ} {end : Machine} → n ≡ k → n ≡ 0 → end ≡ effectOf m call
-      → _≡_ {A = Answered} (record { number = n; machine = end }) (answerBy k m call)
+  pub done : {n k : ℕ} {end : Machine} → n ≡ k → n ≡ 0 → end ≡ effectOf m call → reportOf m call ≡ Nothing → silent n end ≡ answerBy k m call
   unfolding after
-  done {n} {k} {end} number none changed = rw (changed, ← number, none)
+  done {n} {k} {end} number none changed reports = rw (changed, ← number, none, reports)
 
   pub kept : (checks : List Check) {n : ℕ} {end : Machine} → n ≡ first checks → avoids 9 checks ≡ true → (n ≡ 0 → ⊥) → end ≡ m
-      → _≡_ {A = Answered} (record { number = n; machine = end }) (answerBy (first checks) m call)
+      → silent n end ≡ answerBy (first checks) m call
   unfolding after
   kept checks {n} {end} number never refused same =
       let nine = first-avoids 9 checks never in
@@ -136,10 +156,10 @@ module _ (m : Machine) (call : Call) where
 
   -- one that changes the registers alone
   pub registers-answered : {n : ℕ} {r new : Registers} → n ≡ ownNumberOf m call → avoids 9 (checksOf m call) ≡ true
-      → effectOf m call ≡ withRegisters new m → r ≡ pick (eqb n 0) new (m .registers)
-      → _≡_ {A = Answered} (record { number = n; machine = withRegisters r m }) (uncheckedOf m call)
-  registers-answered {n} {r} {new} number never effect changed =
-      answered number never (rw (changed, effect) (split (eqb n 0)))
+      → effectOf m call ≡ withRegisters new m → reportOf m call ≡ Nothing → r ≡ pick (eqb n 0) new (m .registers)
+      → silent n (withRegisters r m) ≡ uncheckedOf m call
+  registers-answered {n} {r} {new} number never effect reports changed =
+      answered number never (rw (changed, effect) (split (eqb n 0))) (unreported n reports)
     where
       split : (b : Bool) → withRegisters (pick b new (m .registers)) m ≡ pick b (withRegisters new m) m
       split true = refl
@@ -147,10 +167,10 @@ module _ (m : Machine) (call : Call) where
 
   -- one that changes the field at a place alone
   pub field-answered : {n : ℕ} {fields : List ℕ} (at new : ℕ) → n ≡ ownNumberOf m call → avoids 9 (checksOf m call) ≡ true
-      → effectOf m call ≡ withFields (set (m .fields) at new) m → fields ≡ pick (eqb n 0) (set (m .fields) at new) (m .fields)
-      → _≡_ {A = Answered} (record { number = n; machine = withFields fields m }) (uncheckedOf m call)
-  field-answered {n} {fields} at new number never effect changed =
-      answered number never (rw (changed, effect) (split (eqb n 0)))
+      → effectOf m call ≡ withFields (set (m .fields) at new) m → reportOf m call ≡ Nothing
+      → fields ≡ pick (eqb n 0) (set (m .fields) at new) (m .fields) → silent n (withFields fields m) ≡ uncheckedOf m call
+  field-answered {n} {fields} at new number never effect reports changed =
+      answered number never (rw (changed, effect) (split (eqb n 0))) (unreported n reports)
     where
       split : (b : Bool) → withFields (pick b (set (m .fields) at new) (m .fields)) m ≡ pick b (withFields (set (m .fields) at new) m) m
       split true = refl
@@ -164,10 +184,10 @@ stored l at false new = set-getD l at 0
 -- a call that stores a field where it is accepted, from the field that it read
 pub store-answered : (m : Machine) (call : Call) {n : ℕ} {fields : List ℕ} {field bits : ℕ} (at new : ℕ)
     → field ≡ getD (m .fields) at 0 → n ≡ ownNumberOf m call → avoids 9 (checksOf m call) ≡ true
-    → effectOf m call ≡ withFields (set (m .fields) at new) m → bits ≡ pick (eqb n 0) new field → fields ≡ set (m .fields) at bits
-    → _≡_ {A = Answered} (record { number = n; machine = withFields fields m }) (uncheckedOf m call)
-store-answered m call {n} {fields} {field} {bits} at new read number never effect chosen written =
-    field-answered m call at new number never effect
+    → effectOf m call ≡ withFields (set (m .fields) at new) m → reportOf m call ≡ Nothing → bits ≡ pick (eqb n 0) new field
+    → fields ≡ set (m .fields) at bits → silent n (withFields fields m) ≡ uncheckedOf m call
+store-answered m call {n} {fields} {field} {bits} at new read number never effect reports chosen written =
+    field-answered m call at new number never effect reports
     (written ∙ rw (chosen, read) (stored (m .fields) at (eqb n 0) new))
 
 -- grant and revoke have one list of conditions, and effects that differ in the bit operation alone
@@ -185,6 +205,10 @@ module _ (m : Machine) (right : ℕ) (page : Page) (s : Domain) where
   change-effect true = refl
   change-effect false = refl
 
+  pub change-reports : (granting : Bool) → reportOf m (changeCall granting right page s) ≡ Nothing
+  change-reports true = refl
+  change-reports false = refl
+
   pub change-avoids : (granting : Bool) → avoids 9 (checksOf m (changeCall granting right page s)) ≡ true
   unfolding changeChecks
   change-avoids granting = rw (change-checks granting)
@@ -194,30 +218,41 @@ module _ (m : Machine) (right : ℕ) (page : Page) (s : Domain) where
       → field ≡ getD (m .fields) at 0 → at ≡ placeOf right (page .0)
       → n ≡ first (changeChecks m right page s (prevailing field))
       → bits ≡ pick (eqb n 0) (pick granting (withBit field (s .0)) (withoutBit field (s .0))) field → fields ≡ set (m .fields) at bits
-      → _≡_ {A = Answered} (record { number = n; machine = withFields fields m })
-      (uncheckedOf m (changeCall granting right page s))
+      → silent n (withFields fields m) ≡ uncheckedOf m (changeCall granting right page s)
   unfolding changeChecks
   change-answered granting {n} {fields} {field} {at} {bits} read place number chosen written =
       let call = changeCall granting right page s in
       store-answered m call at _ read (rw (change-checks granting) (number ∙ rw (read, place))) (change-avoids granting)
-      (change-effect granting ∙ rw (← place, ← read)) chosen written
+      (change-effect granting ∙ rw (← place, ← read)) (change-reports granting) chosen written
 
--- an access changes nothing but the flag, and that where it answers 9
-pub access-answered : (m : Machine) (right address : ℕ) {n : ℕ} {r : Registers} → n ≡ ownNumberOf m (Access right address)
+-- an access changes nothing but the flag and the last violation, and these where it answers 9
+pub access-answered : (m : Machine) (right address : ℕ) {n : ℕ} {r : Registers} {last : LastViolation} → n ≡ ownNumberOf m (Access right address)
     → r ≡ pick (eqb n 9) (withPending true (m .registers)) (m .registers)
-    → _≡_ {A = Answered} (record { number = n; machine = withRegisters r m }) (uncheckedOf m (Access right address))
+    → last ≡ pick (eqb n 9) (deniedBy m (Access right address)) (m .violations .last)
+    → silent n (withLast last (withRegisters r m)) ≡ uncheckedOf m (Access right address)
 unfolding uncheckedOf after effectOf
-access-answered m right address {n} {r} number changed =
-    rw (changed, ← number) (ap (λ (end : Machine). record { number = n; machine = end }) (kept n ∙ done (eqb n 0) refl))
+access-answered m right address {n} {r} {last} number changed denied =
+    let call = Access right address in
+    rw (changed, denied, ← number)
+    (ap (λ (end : Machine). answerOf end) (kept (eqb n 9) ∙ done (eqb n 0) refl) ∙ ap (λ (report : Report). reporting report) (unreported m call n refl))
   where
-    kept : (k : ℕ) → withRegisters (pick (eqb k 9) (withPending true (m .registers)) (m .registers)) m ≡ pick (eqb k 9) (violated m) m
-    kept k = split (eqb k 9)
-      where
-        split : (b : Bool) → withRegisters (pick b (withPending true (m .registers)) (m .registers)) m ≡ pick b (violated m) m
-        split true = refl
-        split false = refl
+    end : Bool → Machine
+    end b = pick b (violated m (Access right address)) m
 
-    done : (b : Bool) → eqb n 0 ≡ b → pick (eqb n 9) (violated m) m ≡ pick b m (pick (eqb n 9) (violated m) m)
+    answerOf : Machine → Answered
+    answerOf = silent n
+
+    reporting : Report → Answered
+    reporting report = record { number = n; machine = after n m (Access right address); report = report }
+
+    kept : (b : Bool)
+        → withLast (pick b (deniedBy m (Access right address)) (m .violations .last))
+        (withRegisters (pick b (withPending true (m .registers)) (m .registers)) m)
+        ≡ pick b (violated m (Access right address)) m
+    kept true = refl
+    kept false = refl
+
+    done : (b : Bool) → eqb n 0 ≡ b → end (eqb n 9) ≡ pick b m (end (eqb n 9))
     done true e = rw (eqb-true n 0 e)
     done false e = refl
 

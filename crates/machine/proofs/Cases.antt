@@ -12,13 +12,13 @@ use Rattle.rules.specs.declared.registers.Mode.the-variants.{User, Privileged}
 use Rattle.rules.specs.declared.registers.Registers.{Registers}
 use lib.Count.{trailingZeros}
 use Rattle.rules.specs.Domains.{prevailing, domainBit}
-use Rattle.machine.specs.Machine.{isSound, noProgram, withRegisters}
+use Rattle.machine.specs.Machine.{isSound, noProgram, withRegisters, withLast}
 use Rattle.machine.specs.Calls.{asPage, asDomain, callOf, checksOf, accessChecks, changeChecks, effectOf, entered, returned, switched, after}
 use Rattle.machine.specs.declared.record.Machine.{Machine}
 use Rattle.machine.specs.declared.record.Program.{Program}
 use Rattle.machine.specs.declared.record.Call.{Call}
-use Rattle.machine.specs.declared.record.Call.the-variants.{Access, Grant, Revoke, SetMask, Enter, Return, Switch, StoreField, StoreContext, StoreMask, StoreMode}
-use Rattle.machine.proofs.Written.{stored, live, whole, Answers, both}
+use Rattle.machine.specs.declared.record.Call.the-variants.{Access, Grant, Revoke, SetMask, Enter, Return, Switch, StoreField, StoreContext, StoreMask, StoreMode, AskViolation}
+use Rattle.machine.proofs.Written.{stored, live, denied, whole, Answers, both}
 
 -- three pages and two programs
 abbrev paged : ℕ → List ℕ → Registers → ℕ → List Bool → ℕ → List Program → Machine
@@ -64,6 +64,7 @@ pub not-sound-first :
     ∷ (StoreContext 0, 1)
     ∷ (StoreMask 0, 1)
     ∷ (StoreMode 2, 1)
+    ∷ (AskViolation, 1)
     ∷ []))
 unfolding callOf isSound
 not-sound-first = refl
@@ -96,6 +97,7 @@ pub user-order :
     ∷ (StoreMask 0, 7)
     ∷ (StoreMode 2, 17)
     ∷ (StoreMode 0, 7)
+    ∷ (AskViolation, 7)
     ∷ []))))))))
 unfolding callOf checksOf accessChecks changeChecks isSound prevailing domainBit trailingZeros
 user-order = refl
@@ -110,7 +112,7 @@ pub pending-order :
     ∷ both 0 0 16 5
     (both 1 0 0 8
     (both 0 0 15 8
-    ((SetMask 0, 8) ∷ (Enter, 0) ∷ (StoreMask 0, 7) ∷ []))))
+    ((SetMask 0, 8) ∷ (Enter, 0) ∷ (StoreMask 0, 7) ∷ (AskViolation, 7) ∷ []))))
 unfolding callOf checksOf accessChecks changeChecks isSound prevailing domainBit trailingZeros
 pending-order = refl
 
@@ -134,6 +136,7 @@ pub privileged-order :
     ∷ (StoreMask 0, 0)
     ∷ (StoreMode 2, 17)
     ∷ (StoreMode 1, 0)
+    ∷ (AskViolation, 0)
     ∷ []))))
 unfolding callOf checksOf accessChecks changeChecks isSound prevailing domainBit trailingZeros
 privileged-order = refl
@@ -173,7 +176,8 @@ pub user-effects :
     let before = user figure (live 7 3 User false) in
     Effects
     ((before, Access 0 0, before)
-    ∷ (before, Access 1 0, user figure (live 7 3 User true))
+    ∷ (before, Access 1 0, withLast (denied 0 1 0) (user figure (live 7 3 User true)))
+    ∷ (before, Access 0 600, withLast (denied 0 0 600) (user figure (live 7 3 User true)))
     ∷ (before, Grant 0 (asPage 1) (asDomain 4), user (fieldsOf 9 0 26 2 12 4) (live 7 3 User false))
     ∷ (before, Grant 1 (asPage 1) (asDomain 3), user (fieldsOf 9 0 10 10 12 4) (live 7 3 User false))
     ∷ (before, Grant 0 (asPage 1) (asDomain 3), before)

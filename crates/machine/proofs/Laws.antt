@@ -1,21 +1,26 @@
 -- The laws of all calls, each stated once over `Call`: listed numbers, refusals, soundness and what a call leaves alone. They rest on what is
 -- told of each call (Told.antt).
-use Prim.Native.Nat.{ℕ, _*_, _≤_}
+use Prim.Native.Nat.{ℕ, _*_, _^_, _≤_, _<_}
 use mathlib.Core.Path.{_≡_, refl, sym, _∙_}
 use mathlib.Core.Bool.{Bool, true, false, not, _||_, true≢false}
 use mathlib.Core.List.{List, [], _∷_}
-use borrow.Author.Tests.{eqb-true, eqb-false, ne-eqb}
-use lib.Dec.{eqb}
+use native.Mathlib.Omega.{arith}
+use borrow.Author.Tests.{eqb-true, eqb-false, ne-eqb, leb-true, leb-false, not-false, le-leb, lt-ltb}
+use lib.Bits.{bitAnd}
+use lib.Dec.{leb, eqb}
 use lib.ListN.{getD}
-use Rattle.rules.specs.Refusals.{_⇒_, first, pick}
-use Rattle.machine.specs.Machine.{isSound, noProgram}
-use Rattle.machine.specs.Calls.{callOf, checksOf, effectOf, inPrivilegedMode, numberOf, after, violated}
+use Rattle.rules.specs.Registers.{localContext, withPending}
+use Rattle.rules.specs.Refusals.{Check, _⇒_, first, pick}
+use Rattle.machine.specs.Machine.{isRight, isSound, memorySize, fieldOf, violationFits, noProgram, withRegisters, withLast}
+use Rattle.machine.specs.Calls.{callOf, answerBy, silent, checksOf, accessChecks, changeChecks, effectOf, deniedBy, handedOut, inPrivilegedMode, inUserMode, numberOf, pageOf, after, violated}
 use Rattle.machine.specs.Listed.{isIn, listed, ownNumbers, soundNumbers}
 use Rattle.machine.specs.declared.record.Machine.{Machine}
+use Rattle.machine.specs.declared.record.LastViolation.the-variants.{Was}
+use Rattle.machine.specs.declared.record.Report.the-variants.{Nothing}
 use Rattle.machine.specs.declared.record.Call.{Call}
-use Rattle.machine.specs.declared.record.Call.the-variants.{Enter}
-use Rattle.machine.proofs.Sound.{sound-facts, moved-sound}
-use Rattle.machine.proofs.Answers.{first-avoids}
+use Rattle.machine.specs.declared.record.Call.the-variants.{Access, Grant, Revoke, SetMask, Enter, Return, Switch, StoreField, StoreContext, StoreMask, StoreMode, AskViolation}
+use Rattle.machine.proofs.Sound.{Sound, sound-facts, moved-sound}
+use Rattle.machine.proofs.Answers.{first-avoids, not-nine, after-cases}
 use Rattle.machine.proofs.Told.{told, shape, first-within}
 
 own-number : (m : Machine) (call : Call) → isIn (first (checksOf m call)) (0 ∷ ownNumbers call) ≡ true
@@ -56,9 +61,9 @@ pub sound-number : (m : Machine) (call : Call) → isSound m ≡ true → isIn (
 unfolding callOf
 sound-number m call s = rw s (told m call .numbers .given s)
 
--- RULES 2.5: a refusal changes nothing, but that 9 sets the flag
+-- RULES 2.5: a refusal changes nothing, but that 9 sets the flag and the last violation
 pub refusal-unchanged : (m : Machine) (call : Call) → (callOf m call .number ≡ 0 → ⊥)
-    → callOf m call .machine ≡ pick (eqb (callOf m call .number) 9) (violated m) m
+    → callOf m call .machine ≡ pick (eqb (callOf m call .number) 9) (violated m call) m
 unfolding callOf after
 refusal-unchanged m call refused = rw (ne-eqb (numberOf m call) 0 refused)
 
@@ -74,7 +79,57 @@ violation-in-user-mode m call nine = split (inPrivilegedMode m) refl
         (first-avoids 9 ((not (isSound m) ⇒ 1) ∷ checksOf m call) (told m call .numbers .no-nine e)) nine)
     split false e = refl
 
--- RULES 2.12: a call that lists 7, which are return, switch and the kernel's stores, is accepted in privileged mode alone
+-- RULES 3.2, 3.3: a violation is answered to an access of a right that is one, to an address in memory. It sets the flag, and the current
+-- program, that right and the whole address are the last violation; nothing else changes
+pub record Violated (m : Machine) (call : Call) : Type 0 where
+  pub right : ℕ
+  pub address : ℕ
+  pub accessed : call ≡ Access right address
+  pub right-known : right ≤ 1
+  pub inside : address < m .pages * 2 ^ m .exponent
+  pub left :
+      callOf m call .machine
+      ≡ withLast (Was (record { program = m .current; right = right; address = address })) (withRegisters (withPending true (m .registers)) m)
+
+reaches-nine : (b₁ b₂ b₃ : Bool) (rest : List Check) → first ((b₁ ⇒ 1) ∷ (b₂ ⇒ 2) ∷ (b₃ ⇒ 3) ∷ rest) ≡ 9 → (b₂ ≡ false) × (b₃ ≡ false)
+reaches-nine true b₂ b₃ rest nine = absurd (omega arith)
+reaches-nine false true b₃ rest nine = absurd (omega arith)
+reaches-nine false false true rest nine = absurd (omega arith)
+reaches-nine false false false rest nine = (refl, refl)
+
+pub access-violated : (m : Machine) (right address : ℕ) → callOf m (Access right address) .number ≡ 9
+    → callOf m (Access right address) .machine
+    ≡ withLast (Was (record { program = m .current; right = right; address = address })) (withRegisters (withPending true (m .registers)) m)
+unfolding callOf after
+access-violated m right address nine = rw nine
+
+pub violation-denies : (m : Machine) (call : Call) → callOf m call .number ≡ 9 → Violated m call
+unfolding callOf checksOf accessChecks changeChecks after
+violation-denies m (Access right address) nine =
+    let apart = eqb (bitAnd (fieldOf m right (pageOf m address)) (localContext (m .registers))) 0 in
+    let user = pick (inPrivilegedMode m) [] ((m .registers .pending ⇒ 8) ∷ (apart ⇒ 9) ∷ []) in
+    let passed = reaches-nine (not (isSound m)) (not (isRight right)) (leb (memorySize m) address) user nine in
+    record {
+      right = right;
+      address = address;
+      accessed = refl;
+      right-known = leb-true right 1 (not-false _ (passed .0));
+      inside = leb-false (memorySize m) address (passed .1);
+      left = access-violated m right address nine;
+    }
+violation-denies m (Grant right page s) nine = absurd (not-nine m (Grant right page s) refl nine)
+violation-denies m (Revoke right page s) nine = absurd (not-nine m (Revoke right page s) refl nine)
+violation-denies m (SetMask bits) nine = absurd (not-nine m (SetMask bits) refl nine)
+violation-denies m Enter nine = absurd (not-nine m Enter refl nine)
+violation-denies m Return nine = absurd (not-nine m Return refl nine)
+violation-denies m (Switch program) nine = absurd (not-nine m (Switch program) refl nine)
+violation-denies m (StoreField right page bits) nine = absurd (not-nine m (StoreField right page bits) refl nine)
+violation-denies m (StoreContext bits) nine = absurd (not-nine m (StoreContext bits) refl nine)
+violation-denies m (StoreMask bits) nine = absurd (not-nine m (StoreMask bits) refl nine)
+violation-denies m (StoreMode mode) nine = absurd (not-nine m (StoreMode mode) refl nine)
+violation-denies m AskViolation nine = absurd (not-nine m AskViolation refl nine)
+
+-- RULES 2.12: a call that lists 7, which are return, switch, the kernel's stores and the question for the last violation, is accepted in privileged mode alone
 pub kernel-alone : (m : Machine) (call : Call) → isIn 7 (ownNumbers call) ≡ true → numberOf m call ≡ 0 → inPrivilegedMode m ≡ true
 kernel-alone m call = told m call .kernel
 
@@ -83,37 +138,69 @@ pub soundness-kept : (m : Machine) (call : Call) → isSound (callOf m call .mac
 unfolding callOf after
 soundness-kept m call = split (isSound m) refl
   where
-    refused : (n : ℕ) → isSound m ≡ true → numberOf m call ≡ n → (b : Bool) → eqb n 9 ≡ b → isSound (pick b (violated m) m) ≡ true
+    denied-fits : numberOf m call ≡ 9 → Sound m → violationFits (m .programs) (memorySize m) (deniedBy m call) ≡ true
+    denied-fits nine s =
+        let v = violation-denies m call nine in
+        rw (v .accessed, lt-ltb _ _ (s .current-below), le-leb _ _ (v .right-known), lt-ltb _ _ (v .inside))
+
+    refused : (n : ℕ) → isSound m ≡ true → numberOf m call ≡ n → (b : Bool) → eqb n 9 ≡ b → isSound (pick b (violated m call) m) ≡ true
     refused n h e true nine =
         let s = sound-facts m h in
-        let user = violation-in-user-mode m call (e ∙ eqb-true n 9 nine) in
-        moved-sound m (violated m) (refl, refl, refl) h (s .depth-most) (s .current-below) user
+        let number = e ∙ eqb-true n 9 nine in
+        moved-sound m (violated m call) (refl, refl, refl) h (s .depth-most) (s .current-below) (violation-in-user-mode m call number) (denied-fits number s)
     refused n h e false nine = h
 
     called : isSound m ≡ true → (b : Bool) → eqb (numberOf m call) 0 ≡ b
-        → isSound (pick b (effectOf m call) (pick (eqb (numberOf m call) 9) (violated m) m)) ≡ true
+        → isSound (pick b (effectOf m call) (pick (eqb (numberOf m call) 9) (violated m call) m)) ≡ true
     called h true e = told m call .sound h (eqb-true (numberOf m call) 0 e)
     called h false e = refused (numberOf m call) h refl (eqb (numberOf m call) 9) refl
 
     split : (b : Bool) → isSound m ≡ b
-        → isSound (pick (eqb (numberOf m call) 0) (effectOf m call) (pick (eqb (numberOf m call) 9) (violated m) m)) ≡ b
+        → isSound (pick (eqb (numberOf m call) 0) (effectOf m call) (pick (eqb (numberOf m call) 9) (violated m call) m)) ≡ b
     split true h = called h (eqb (numberOf m call) 0) refl
     split false h = rw h h
 
 -- what neither the effect of an accepted call nor a violation changes, no call changes
 kept-by-call : {A : Type 0} (part : Machine → A) (m : Machine) (call : Call) → (numberOf m call ≡ 0 → part (effectOf m call) ≡ part m)
-    → part (violated m) ≡ part m → part (callOf m call .machine) ≡ part m
+    → part (violated m call) ≡ part m → part (callOf m call .machine) ≡ part m
 unfolding callOf after
 kept-by-call part m call effect violation = split (eqb (numberOf m call) 0) refl
   where
-    flagged : (b : Bool) → part (pick b (violated m) m) ≡ part m
+    flagged : (b : Bool) → part (pick b (violated m call) m) ≡ part m
     flagged true = violation
     flagged false = refl
 
     split : (b : Bool) → eqb (numberOf m call) 0 ≡ b
-        → part (pick b (effectOf m call) (pick (eqb (numberOf m call) 9) (violated m) m)) ≡ part m
+        → part (pick b (effectOf m call) (pick (eqb (numberOf m call) 9) (violated m call) m)) ≡ part m
     split true e = effect (eqb-true (numberOf m call) 0 e)
     split false e = flagged (eqb (numberOf m call) 9)
+
+-- RULES 2.5, 3.3: no answer but 9 changes the last violation, of whatever call
+pub last-kept : (m : Machine) (call : Call) → (callOf m call .number ≡ 9 → ⊥) → callOf m call .machine .violations .last ≡ m .violations .last
+unfolding callOf
+last-kept m call other =
+    after-cases (λ end. end .violations .last ≡ m .violations .last) (numberOf m call) m call (λ n. told m call .left n .last-stays)
+    (λ nine. absurd (other nine)) refl
+
+-- RULES 2.13: a refused call reports nothing
+pub refused-silent : (m : Machine) (call : Call) → (callOf m call .number ≡ 0 → ⊥) → callOf m call .report ≡ Nothing
+unfolding callOf
+refused-silent m call refused = rw (ne-eqb (numberOf m call) 0 refused)
+
+-- RULES 3.24, 3.25: the question for the last violation in full: 1, then 7 in user mode, else 0 with what is kept; the machine is as it was
+pub question-answered : (m : Machine)
+    → callOf m AskViolation
+    ≡ pick (not (isSound m)) (silent 1 m)
+    (pick (inUserMode m) (silent 7 m) (record { number = 0; machine = m; report = handedOut (m .violations .last) }))
+unfolding callOf checksOf effectOf after
+question-answered m = split (isSound m) (inPrivilegedMode m)
+  where
+    split : (sound privileged : Bool)
+        → answerBy (pick (not sound) 1 (first ((not privileged ⇒ 7) ∷ []))) m AskViolation
+        ≡ pick (not sound) (silent 1 m) (pick (not privileged) (silent 7 m) (answerBy 0 m AskViolation))
+    split false privileged = refl
+    split true false = refl
+    split true true = refl
 
 -- no call changes the page count, the exponent or the program count
 pub shape-kept : (m : Machine) (call : Call)

@@ -4,81 +4,92 @@ use Prim.Native.Nat.{ℕ}
 use mathlib.Core.Path.{_≡_, refl, ap, sym, _∙_}
 use mathlib.Core.Bool.{Bool, true}
 use mathlib.Core.List.{List}
+use lib.Dec.{eqb}
+use Rattle.rules.specs.Refusals.{pick}
 use Rattle.machine.specs.Machine.{withFields, withStack, withLent}
-use Rattle.machine.specs.Calls.{uncheckedOf, answerBy, ownNumberOf, changeCall, checksOf, effectOf, keeping, violated}
+use Rattle.machine.specs.Calls.{uncheckedOf, answerBy, silent, ownNumberOf, changeCall, checksOf, effectOf, deniedBy, reportOf, keeping, violated}
 use Rattle.machine.specs.declared.record.Machine.{Machine}
 use Rattle.machine.specs.declared.record.Page.{Page}
 use Rattle.machine.specs.declared.record.Domain.{Domain}
+use Rattle.machine.specs.declared.record.Report.the-variants.{Nothing}
 use Rattle.machine.specs.declared.record.Answered.{Answered}
 use Rattle.machine.specs.declared.record.Call.{Call}
 use Rattle.machine.specs.declared.record.Call.the-variants.{Access, StoreField}
-use Rattle.machine.proofs.Answers.{avoids, after-cases, after-both, own-not-nine, change-avoids, change-effect}
+use Rattle.machine.proofs.Answers.{avoids, after-cases, after-both, own-not-nine, unreported, change-avoids, change-effect, change-reports}
 
--- the same machine with another part, of which neither the conditions nor the effect of a call know
+-- the same machine with another part, of which a call knows nothing: not its conditions, nor its effect, nor what it reports, nor its violation
 abbrev Aside : (Machine → Machine) → Machine → Call → Type 0
-Aside put m call = (checksOf (put m) call ≡ checksOf m call) × (effectOf (put m) call ≡ put (effectOf m call))
+Aside put m call =
+    (checksOf (put m) call ≡ checksOf m call)
+    × (effectOf (put m) call ≡ put (effectOf m call))
+    × (reportOf (put m) call ≡ reportOf m call)
+    × (violated (put m) call ≡ put (violated m call))
 
-aside : (put : Machine → Machine) (m : Machine) (call : Call) → Aside put m call → put (violated m) ≡ violated (put m)
-    → uncheckedOf (put m) call ≡ record { number = uncheckedOf m call .number; machine = put (uncheckedOf m call .machine) }
+aside : (put : Machine → Machine) (m : Machine) (call : Call) → Aside put m call
+    → uncheckedOf (put m) call
+    ≡ record { number = uncheckedOf m call .number; machine = put (uncheckedOf m call .machine); report = uncheckedOf m call .report }
 unfolding uncheckedOf
-aside put m call unseen flag =
+aside put m call unseen =
     let n = ownNumberOf m call in
-    rw (unseen .0)
-    (ap (λ (end : Machine). record { number = n; machine = end })
-    (after-both (λ own other. other ≡ put own) n (unseen .1) (sym flag) refl))
+    rw (unseen .0, unseen .2)
+    (ap (λ (end : Machine). record { number = n; machine = end; report = pick (eqb n 0) (reportOf m call) Nothing })
+    (after-both (λ own other. other ≡ put own) n call (unseen .1) (unseen .3) refl))
 
 -- a call that changes the fields alone: it is put together from its number and the fields after it
 abbrev FieldsAlone : Machine → Call → Type 0
-FieldsAlone m call =
-    _≡_ {A = Answered} (record { number = uncheckedOf m call .number; machine = withFields (uncheckedOf m call .machine .fields) m }) (uncheckedOf m call)
+FieldsAlone m call = silent (uncheckedOf m call .number) (withFields (uncheckedOf m call .machine .fields) m) ≡ uncheckedOf m call
 
 fields-alone : (m : Machine) (call : Call) {new : List ℕ} → avoids 9 (checksOf m call) ≡ true → effectOf m call ≡ withFields new m
-    → FieldsAlone m call
+    → reportOf m call ≡ Nothing → FieldsAlone m call
 unfolding uncheckedOf
-fields-alone m call never effect =
+fields-alone m call never effect reports =
     let n = ownNumberOf m call in
-    ap (λ (end : Machine). record { number = n; machine = end })
-    (after-cases (λ end. withFields (end .fields) m ≡ end) n m (effectOf m call) (λ _. rw effect) (λ nine. absurd (own-not-nine m call never nine)) refl)
+    rw (← unreported m call n reports)
+    (ap (λ (end : Machine). silent n end)
+    (after-cases (λ end. withFields (end .fields) m ≡ end) n m call (λ _. rw effect) (λ nine. absurd (own-not-nine m call never nine)) refl))
 
 pub change-alone : (m : Machine) (granting : Bool) (right : ℕ) (page : Page) (s : Domain)
     → FieldsAlone m (changeCall granting right page s)
 change-alone m granting right page s =
     fields-alone m (changeCall granting right page s) (change-avoids m right page s granting) (change-effect m right page s granting)
+    (change-reports m right page s granting)
 
 pub store-alone : (m : Machine) (right : ℕ) (page : Page) (bits : ℕ) → FieldsAlone m (StoreField right page bits)
 unfolding checksOf effectOf
-store-alone m right page bits = fields-alone m (StoreField right page bits) refl refl
+store-alone m right page bits = fields-alone m (StoreField right page bits) refl refl refl
 
--- an access leaves the fields as they were, and the whole machine but its flag
+-- an access leaves the fields as they were, and the whole machine but its flag and its last violation
 pub access-keeps : (m : Machine) (right address : ℕ) → uncheckedOf m (Access right address) .machine .fields ≡ m .fields
 unfolding uncheckedOf effectOf
 access-keeps m right address =
-    after-cases (λ end. end .fields ≡ m .fields) (ownNumberOf m (Access right address)) m m (λ _. refl) (λ _. refl) refl
+    after-cases (λ end. end .fields ≡ m .fields) (ownNumberOf m (Access right address)) m (Access right address) (λ _. refl) (λ _. refl) refl
 
 pub access-own : (m : Machine) (right address : ℕ) → keeping m (uncheckedOf m (Access right address)) ≡ uncheckedOf m (Access right address)
 unfolding uncheckedOf effectOf
 access-own m right address =
-    let n = ownNumberOf m (Access right address) in
-    ap (λ (end : Machine). record { number = n; machine = end })
-    (after-cases (λ end. withLent (m .fields) (m .saved) end ≡ end) n m m (λ _. refl) (λ _. refl) refl)
+    let call = Access right address in
+    let answer = uncheckedOf m call in
+    ap (λ (end : Machine). record { number = answer .number; machine = end; report = answer .report })
+    (after-cases (λ end. withLent (m .fields) (m .saved) end ≡ end) (answer .number) m call (λ _. refl) (λ _. refl) refl)
 
 -- a call that leaves the fields alone is put together from its answer by a number on a lent stack, the machine's own, and what it left there
 pub stack-own : (m : Machine) (call : Call) (n : ℕ) → effectOf m call .fields ≡ m .fields
     → _≡_ {A = Answered} (record {
       number = n;
       machine = withStack (answerBy n m call .machine .depth) (answerBy n m call .machine .saved) (keeping m (answerBy n m call) .machine);
+      report = answerBy n m call .report;
     }) (answerBy n m call)
 stack-own m call n left =
-    ap (λ (end : Machine). record { number = n; machine = end })
-    (after-cases (λ end. withFields (m .fields) end ≡ end) n m (effectOf m call)
+    ap (λ (end : Machine). record { number = n; machine = end; report = answerBy n m call .report })
+    (after-cases (λ end. withFields (m .fields) end ≡ end) n m call
     (λ _. ap (λ (fields : List ℕ). withFields fields (effectOf m call)) (sym left)) (λ _. refl) refl)
 
 -- the answer of code that left the stack after a call in the lent one, and its own in the machine
 pub lent-stack : (own : Machine) {n : ℕ} {end : Machine} {saved : List Bool} {answer : Answered}
-    → record { number = n; machine = withStack (end .depth) saved end } ≡ answer → withLent (own .fields) (own .saved) end ≡ end
-    → (_≡_ {A = Answered} (record { number = n; machine = end }) (keeping own answer)) × (saved ≡ answer .machine .saved)
+    → silent n (withStack (end .depth) saved end) ≡ answer → withLent (own .fields) (own .saved) end ≡ end
+    → (silent n end ≡ keeping own answer) × (saved ≡ answer .machine .saved)
 lent-stack own {n} same kept =
-    (ap (λ (end : Machine). record { number = n; machine = end }) (sym kept) ∙ ap (keeping own) same, ap (λ (r : Answered). r .machine .saved) same)
+    (ap (λ (end : Machine). silent n end) (sym kept) ∙ ap (keeping own) same, ap (λ (r : Answered). r .machine .saved) same)
 
 module _ (fields : List ℕ) (saved : List Bool) (m : Machine) (call : Call) where
   -- what a call on a machine with both parts lent gives back, and what it leaves in them
@@ -93,10 +104,10 @@ module _ (fields : List ℕ) (saved : List Bool) (m : Machine) (call : Call) whe
       → withLent (m .fields) (m .saved) (effectOf m call) ≡ effectOf m call → r ≡ uncheckedOf m call → Lent r fields saved
   unfolding uncheckedOf
   on-neither unseen own answer =
-      let both = aside (withLent fields saved) m call unseen refl in
+      let both = aside (withLent fields saved) m call unseen in
       let kept : withLent (m .fields) (m .saved) (uncheckedOf m call .machine) ≡ uncheckedOf m call .machine =
-      after-cases (λ end. withLent (m .fields) (m .saved) end ≡ end) (ownNumberOf m call) m (effectOf m call) (λ _. own) (λ _. refl) refl in (
-        answer ∙ ap (λ (end : Machine). record { number = ownNumberOf m call; machine = end }) (sym kept) ∙ sym (ap (keeping m) both),
+      after-cases (λ end. withLent (m .fields) (m .saved) end ≡ end) (ownNumberOf m call) m call (λ _. own) (λ _. refl) refl in (
+        answer ∙ ap (λ (end : Machine). record { number = ownNumberOf m call; machine = end; report = uncheckedOf m call .report }) (sym kept) ∙ sym (ap (keeping m) both),
         (sym (ap (λ (r : Answered). r .machine .fields) both), sym (ap (λ (r : Answered). r .machine .saved) both)),
       )
 
@@ -105,7 +116,7 @@ module _ (fields : List ℕ) (saved : List Bool) (m : Machine) (call : Call) whe
       → r ≡ keeping m (uncheckedOf (withFields fields m) call) → fields′ ≡ uncheckedOf (withFields fields m) call .machine .fields
       → Lent r fields′ saved
   on-fields unseen answer left =
-      let both = aside (λ x. withStack (x .depth) saved x) (withFields fields m) call unseen refl in (
+      let both = aside (λ x. withStack (x .depth) saved x) (withFields fields m) call unseen in (
         answer ∙ sym (ap (keeping m) both),
         (left ∙ sym (ap (λ (r : Answered). r .machine .fields) both), sym (ap (λ (r : Answered). r .machine .saved) both)),
       )
@@ -113,7 +124,7 @@ module _ (fields : List ℕ) (saved : List Bool) (m : Machine) (call : Call) whe
   -- one on the lent fields that changes them alone, from its number
   pub on-fields-alone : {n : ℕ} {fields′ : List ℕ} → Aside (λ x. withStack (x .depth) saved x) (withFields fields m) call
       → FieldsAlone (withFields fields m) call → n ≡ uncheckedOf (withFields fields m) call .number
-      → fields′ ≡ uncheckedOf (withFields fields m) call .machine .fields → Lent (record { number = n; machine = m }) fields′ saved
+      → fields′ ≡ uncheckedOf (withFields fields m) call .machine .fields → Lent (silent n m) fields′ saved
   on-fields-alone unseen alone number left = on-fields unseen (rw number (ap (keeping m) alone)) left
 
   -- and one on the lent stack that does not look at the fields
@@ -121,7 +132,7 @@ module _ (fields : List ℕ) (saved : List Bool) (m : Machine) (call : Call) whe
       → r ≡ keeping m (uncheckedOf (withStack (m .depth) saved m) call)
       → saved′ ≡ uncheckedOf (withStack (m .depth) saved m) call .machine .saved → Lent r fields saved′
   on-stack unseen answer left =
-      let both = aside (withFields fields) (withStack (m .depth) saved m) call unseen refl in (
+      let both = aside (withFields fields) (withStack (m .depth) saved m) call unseen in (
         answer ∙ sym (ap (keeping m) both),
         (sym (ap (λ (r : Answered). r .machine .fields) both), left ∙ sym (ap (λ (r : Answered). r .machine .saved) both)),
       )

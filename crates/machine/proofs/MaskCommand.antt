@@ -35,7 +35,7 @@ unfolding callOf checksOf effectOf after maskedOf
 lent-alters m bits sound = rw sound (split (isPrivileged (m .registers .mode)) (m .registers .pending))
   where
     split : (privileged pending : Bool)
-        → after (pick privileged 6 (pick pending 8 0)) m (withRegisters (withMask bits (m .registers)) m) .registers
+        → after (pick privileged 6 (pick pending 8 0)) m (SetMask bits) .registers
         ≡ pick (eqb (pick privileged 6 (pick pending 8 0)) 0) (withMask bits (m .registers)) (m .registers)
     split true pending = refl
     split false true = refl

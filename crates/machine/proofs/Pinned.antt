@@ -11,16 +11,20 @@ use Rattle.rules.specs.Domains.{domainBit, prevailing}
 use Rattle.rules.specs.declared.registers.Mode.{Mode}
 use Rattle.rules.specs.declared.registers.Mode.the-variants.{User, Privileged}
 use Rattle.rules.specs.declared.registers.Registers.{Registers}
-use Rattle.machine.specs.Machine.{zero, noProgram, isSound, memorySize, placeOf, fieldOf, withFields, withRegisters, withStack, withPrograms, withLent}
-use Rattle.machine.specs.Calls.{isRight, asPage, asDomain, inPrivilegedMode, inUserMode, pageOf, modeOf, violated, callOf, uncheckedOf, changeCall, keeping, checksOf, accessChecks, changeChecks, effectOf, entered, returned, switched, after}
+use Rattle.machine.specs.Machine.{zero, noProgram, isRight, isSound, memorySize, placeOf, fieldOf, withFields, withRegisters, withStack, withPrograms, withLast, withLent}
+use Rattle.machine.specs.Calls.{asPage, asDomain, inPrivilegedMode, inUserMode, pageOf, modeOf, violated, callOf, uncheckedOf, changeCall, keeping, handedOut, silent, checksOf, accessChecks, changeChecks, effectOf, entered, returned, switched, after}
 use Rattle.machine.specs.Listed.{isIn, listed, soundNumbers}
 use Rattle.machine.specs.declared.record.Machine.{Machine}
 use Rattle.machine.specs.declared.record.Program.{Program}
 use Rattle.machine.specs.declared.record.Page.{Page}
+use Rattle.machine.specs.declared.record.LastViolation.{LastViolation}
+use Rattle.machine.specs.declared.record.LastViolation.the-variants.{Absent}
+use Rattle.machine.specs.declared.record.Report.{Report}
+use Rattle.machine.specs.declared.record.Report.the-variants.{Nothing, Denied}
 use Rattle.machine.specs.declared.record.Answered.{Answered}
 use Rattle.machine.specs.declared.record.Call.{Call}
-use Rattle.machine.specs.declared.record.Call.the-variants.{Access, Grant, Revoke, SetMask, Enter, Return, Switch, StoreField, StoreContext, StoreMask, StoreMode}
-use Rattle.machine.proofs.Written.{stored, live, whole, Answers, both}
+use Rattle.machine.specs.declared.record.Call.the-variants.{Access, Grant, Revoke, SetMask, Enter, Return, Switch, StoreField, StoreContext, StoreMask, StoreMode, AskViolation}
+use Rattle.machine.proofs.Written.{stored, live, denied, holding, whole, Answers, both}
 
 -- "every number is zero, every mode user and the flag clear": 256 fields, eight places on the stack, eight entries in the table
 pub all-zero :
@@ -37,6 +41,7 @@ pub numbers-named :
 numbers-named = (refl, refl, refl, refl)
 
 -- ---- the largest machine: 128 pages of 512 bytes, eight programs. READ of the last page is held by domains 8 and 9, WRITE by 9 and 15.
+-- The last violation was one of program 3.
 
 abbrev entries : List Program
 entries =
@@ -47,7 +52,7 @@ abbrev last : ℕ → ℕ → List ℕ
 last read write = replicate 254 0 ++ read ∷ write ∷ []
 
 abbrev wide : List ℕ → Registers → Machine
-wide fields registers = whole 128 9 fields registers 0 (replicate 8 false) 8 7 entries
+wide fields registers = holding (denied 3 0 513) 128 9 fields registers 0 (replicate 8 false) 8 7 entries
 
 -- where fields, pages and memory are
 pub places :
@@ -96,9 +101,9 @@ pub last-page-order :
 unfolding callOf checksOf accessChecks changeChecks isSound prevailing domainBit trailingZeros
 last-page-order = (refl, refl, refl, refl)
 
--- a machine, a call that is made on it, and the number and the machine after it
+-- a machine, a call that is made on it, and the number and the machine after it; nothing is reported
 abbrev Outcomes : (Machine → Call → Answered) → List (Machine × Call × ℕ × Machine) → Type 0
-Outcomes made rows = map (λ row. made (row .0) (row .1)) rows ≡ map (λ row. record { number = row .2; machine = row .3 }) rows
+Outcomes made rows = map (λ row. made (row .0) (row .1)) rows ≡ map (λ row. record { number = row .2; machine = row .3; report = Nothing }) rows
 
 pub last-page-outcomes :
     let r = live 0x0300 0xFFFF User false in
@@ -106,7 +111,7 @@ pub last-page-outcomes :
     let page : Page = record { 0 = 127 } in
     Outcomes callOf
     ((m, Access 0 65535, 0, m)
-    ∷ (m, Access 1 65023, 9, wide (last 0x0300 0x8200) (live 0x0300 0xFFFF User true))
+    ∷ (m, Access 1 65023, 9, withLast (denied 7 1 65023) (wide (last 0x0300 0x8200) (live 0x0300 0xFFFF User true)))
     ∷ (m, Access 1 65536, 3, m)
     ∷ (m, Grant 0 page (record { 0 = 15 }), 0, wide (last 0x8300 0x8200) r)
     ∷ (m, Grant 0 page (record { 0 = 9 }), 0, m)
@@ -121,13 +126,14 @@ pub last-page-outcomes :
     ∷ (m, Revoke 0 page (record { 0 = 8 }), 12, m)
     ∷ (m, SetMask 0xFC00, 0, wide (last 0x0300 0x8200) (live 0x0300 0xFC00 User false))
     ∷ (m, Return, 7, m)
+    ∷ (m, AskViolation, 7, m)
     ∷ [])
 unfolding callOf checksOf accessChecks changeChecks effectOf after isSound prevailing domainBit trailingZeros
 last-page-outcomes = refl
 
 -- the last program and the last stack place, of a machine whose every part differs from zero
 abbrev kernel : List ℕ → Registers → ℕ → List Bool → ℕ → List Program → Machine
-kernel fields registers depth saved current table = whole 128 9 fields registers depth saved 8 current table
+kernel fields registers depth saved current table = holding (denied 6 1 65535) 128 9 fields registers depth saved 8 current table
 
 abbrev marked : Bool → Bool → List Bool
 marked first eighth = first ∷ true ∷ false ∷ true ∷ false ∷ false ∷ true ∷ eighth ∷ []
@@ -172,6 +178,48 @@ pub kernel-outcomes :
     ∷ [])
 unfolding callOf checksOf accessChecks effectOf entered returned switched after isSound
 kernel-outcomes = refl
+
+-- ---- the question for the last violation
+
+abbrev handing : ℕ → Machine → Report → Answered
+handing number machine report = record { number = number; machine = machine; report = report }
+
+-- in privileged mode it hands out what is kept, or nothing; in user mode and on a machine that is not sound it hands out nothing, whatever is kept
+pub questions-answered :
+    let kept : Mode → ℕ → LastViolation → Machine = λ mode depth last. holding last 2 5 [] (live 1 2 mode false) depth [] 3 1 [] in
+    (map (λ (m : Machine). callOf m AskViolation)
+    (kept Privileged 0 Absent
+    ∷ kept Privileged 8 (denied 2 1 63)
+    ∷ kept Privileged 1 (denied 0 0 0)
+    ∷ kept User 0 (denied 2 1 63)
+    ∷ kept Privileged 9 (denied 2 1 63)
+    ∷ kept Privileged 1 (denied 3 1 63)
+    ∷ [])
+    ≡ handing 0 (kept Privileged 0 Absent) Nothing
+    ∷ handing 0 (kept Privileged 8 (denied 2 1 63)) (Denied (record { program = 2; right = 1; address = 63 }))
+    ∷ handing 0 (kept Privileged 1 (denied 0 0 0)) (Denied (record { program = 0; right = 0; address = 0 }))
+    ∷ handing 7 (kept User 0 (denied 2 1 63)) Nothing
+    ∷ handing 1 (kept Privileged 9 (denied 2 1 63)) Nothing
+    ∷ handing 1 (kept Privileged 1 (denied 3 1 63)) Nothing
+    ∷ [])
+    × (uncheckedOf (kept Privileged 9 (denied 3 2 64)) AskViolation
+    ≡ handing 0 (kept Privileged 9 (denied 3 2 64)) (Denied (record { program = 3; right = 2; address = 64 })))
+    × (handedOut Absent ∷ handedOut (denied 7 1 65023) ∷ [] ≡ Nothing ∷ Denied (record { program = 7; right = 1; address = 65023 }) ∷ [])
+    × (silent 18 zero ≡ handing 18 zero Nothing)
+unfolding callOf uncheckedOf checksOf effectOf after isSound
+questions-answered = (refl, refl, refl, refl)
+
+-- a stored violation of a machine with 3 pages of 256 bytes and 2 programs, and of one with 128 pages of 512 bytes and 8 programs
+pub violations-sound :
+    let small : LastViolation → Machine = λ last. holding last 3 8 [] (live 0 0 User false) 0 [] 2 0 [] in
+    let large : LastViolation → Machine = λ last. holding last 128 9 [] (live 0 0 User false) 0 [] 8 0 [] in
+    (map (λ (last : LastViolation). isSound (small last))
+    (Absent ∷ denied 0 0 0 ∷ denied 1 1 767 ∷ denied 2 0 0 ∷ denied 0 2 0 ∷ denied 0 255 0 ∷ denied 0 0 768 ∷ denied 65535 255 4294967295 ∷ [])
+    ≡ true ∷ true ∷ true ∷ false ∷ false ∷ false ∷ false ∷ false ∷ [])
+    × (map (λ (last : LastViolation). isSound (large last)) (denied 7 1 65535 ∷ denied 8 1 65535 ∷ denied 7 2 65535 ∷ denied 7 1 65536 ∷ [])
+    ≡ true ∷ false ∷ false ∷ false ∷ [])
+unfolding isSound
+violations-sound = (refl, refl)
 
 -- ---- both ends of each range of soundness
 
@@ -244,7 +292,7 @@ pub unchecked-outcomes :
     let many = loose 1 9 8 Privileged false in
     Outcomes uncheckedOf
     ((empty, SetMask 7, 0, withRegisters (live 0x0101 7 User false) empty)
-    ∷ (empty, Access 1 0, 9, withRegisters (live 0x0101 0xFF01 User true) empty)
+    ∷ (empty, Access 1 0, 9, withLast (denied 0 1 0) (withRegisters (live 0x0101 0xFF01 User true) empty))
     ∷ (empty, Enter, 13, empty)
     ∷ (deep, Return, 0, withRegisters (live 0x0101 0xFF01 User false) (loose 8 2 0 Privileged false))
     ∷ (
@@ -273,9 +321,9 @@ checked-outcomes = refl
 
 -- ---- the parts of a machine, put in one by one
 
--- two machines that differ in every part
+-- a machine, and parts that differ from each of its own
 abbrev one-machine : Machine
-one-machine = whole 1 5 (1 ∷ []) (live 1 2 Privileged true) 1 (true ∷ []) 1 1 (stored 1 2 Privileged ∷ [])
+one-machine = holding (denied 1 1 1) 1 5 (1 ∷ []) (live 1 2 Privileged true) 1 (true ∷ []) 1 1 (stored 1 2 Privileged ∷ [])
 
 pub parts-put-in :
     withFields (2 ∷ []) one-machine
@@ -283,24 +331,28 @@ pub parts-put-in :
     ∷ withStack 2 (false ∷ []) one-machine
     ∷ withPrograms 2 (stored 3 4 User ∷ []) one-machine
     ∷ withLent (2 ∷ []) (false ∷ []) one-machine
-    ∷ violated (withRegisters (live 3 4 User false) one-machine)
+    ∷ withLast (denied 2 0 3) one-machine
+    ∷ violated (withRegisters (live 3 4 User false) one-machine) (Access 0 4)
     ∷ []
-    ≡ whole 1 5 (2 ∷ []) (live 1 2 Privileged true) 1 (true ∷ []) 1 1 (stored 1 2 Privileged ∷ [])
-    ∷ whole 1 5 (1 ∷ []) (live 3 4 User false) 1 (true ∷ []) 1 1 (stored 1 2 Privileged ∷ [])
-    ∷ whole 1 5 (1 ∷ []) (live 1 2 Privileged true) 2 (false ∷ []) 1 1 (stored 1 2 Privileged ∷ [])
-    ∷ whole 1 5 (1 ∷ []) (live 1 2 Privileged true) 1 (true ∷ []) 1 2 (stored 3 4 User ∷ [])
-    ∷ whole 1 5 (2 ∷ []) (live 1 2 Privileged true) 1 (false ∷ []) 1 1 (stored 1 2 Privileged ∷ [])
-    ∷ whole 1 5 (1 ∷ []) (live 3 4 User true) 1 (true ∷ []) 1 1 (stored 1 2 Privileged ∷ [])
+    ≡ holding (denied 1 1 1) 1 5 (2 ∷ []) (live 1 2 Privileged true) 1 (true ∷ []) 1 1 (stored 1 2 Privileged ∷ [])
+    ∷ holding (denied 1 1 1) 1 5 (1 ∷ []) (live 3 4 User false) 1 (true ∷ []) 1 1 (stored 1 2 Privileged ∷ [])
+    ∷ holding (denied 1 1 1) 1 5 (1 ∷ []) (live 1 2 Privileged true) 2 (false ∷ []) 1 1 (stored 1 2 Privileged ∷ [])
+    ∷ holding (denied 1 1 1) 1 5 (1 ∷ []) (live 1 2 Privileged true) 1 (true ∷ []) 1 2 (stored 3 4 User ∷ [])
+    ∷ holding (denied 1 1 1) 1 5 (2 ∷ []) (live 1 2 Privileged true) 1 (false ∷ []) 1 1 (stored 1 2 Privileged ∷ [])
+    ∷ holding (denied 2 0 3) 1 5 (1 ∷ []) (live 1 2 Privileged true) 1 (true ∷ []) 1 1 (stored 1 2 Privileged ∷ [])
+    ∷ holding (denied 1 0 4) 1 5 (1 ∷ []) (live 3 4 User true) 1 (true ∷ []) 1 1 (stored 1 2 Privileged ∷ [])
     ∷ []
 parts-put-in = refl
 
--- what comes back of a call on lent parts: its number and its machine, but the caller's fields and stack
+-- what comes back of a call on lent parts: its number, its report and its machine, but the caller's fields and stack
 pub kept-back :
     let own = whole 2 6 (3 ∷ []) (live 5 6 User false) 3 (false ∷ []) 2 2 [] in
-    let answer : Answered = record { number = 7; machine = one-machine } in
+    let report = Denied (record { program = 4; right = 0; address = 5 }) in
+    let answer : Answered = record { number = 7; machine = one-machine; report = report } in
     _≡_ {A = Answered} (keeping own answer) (record {
       number = 7;
-      machine = whole 1 5 (3 ∷ []) (live 1 2 Privileged true) 1 (false ∷ []) 1 1 (stored 1 2 Privileged ∷ []);
+      machine = holding (denied 1 1 1) 1 5 (3 ∷ []) (live 1 2 Privileged true) 1 (false ∷ []) 1 1 (stored 1 2 Privileged ∷ []);
+      report = report;
     })
 kept-back = refl
 
@@ -311,14 +363,15 @@ pub told-apart :
     ≡ Grant 1 (record { 0 = 2 }) (record { 0 = 3 }) ∷ Revoke 1 (record { 0 = 2 }) (record { 0 = 3 }) ∷ [])
 told-apart = (refl, refl)
 
--- the machine after a call: the effect on 0, the flag set on 9, the machine before it on every other number
+-- the machine after a call: the effect on 0, flag and last violation on 9, the machine before it on every other number
 pub after-numbers :
-    let m = whole 1 5 [] (live 1 2 User false) 0 [] 1 0 [] in
-    let effect = whole 2 6 [] (live 3 4 User false) 0 [] 1 0 [] in
-    map (λ (n : ℕ). after n m effect) (0 ∷ 1 ∷ 2 ∷ 8 ∷ 9 ∷ 10 ∷ 11 ∷ 18 ∷ [])
-    ≡ effect ∷ m ∷ m ∷ m ∷ whole 1 5 [] (live 1 2 User true) 0 [] 1 0 [] ∷ m ∷ m ∷ m ∷ []
-unfolding after
-after-numbers = refl
+    let m = holding (denied 0 1 2) 1 5 [] (live 1 2 User false) 0 [] 3 2 [] in
+    (map (λ (n : ℕ). after n m (Access 0 31)) (0 ∷ 1 ∷ 2 ∷ 8 ∷ 9 ∷ 10 ∷ 11 ∷ 18 ∷ [])
+    ≡ m ∷ m ∷ m ∷ m ∷ holding (denied 2 0 31) 1 5 [] (live 1 2 User true) 0 [] 3 2 [] ∷ m ∷ m ∷ m ∷ [])
+    × (map (λ (n : ℕ). after n m (SetMask 4)) (0 ∷ 1 ∷ 6 ∷ 8 ∷ [])
+    ≡ holding (denied 0 1 2) 1 5 [] (live 1 4 User false) 0 [] 3 2 [] ∷ m ∷ m ∷ m ∷ [])
+unfolding after effectOf
+after-numbers = (refl, refl)
 
 -- ---- the numbers that are listed, and no others
 
@@ -335,6 +388,7 @@ pub numbers-listed :
     ∷ StoreContext 0
     ∷ StoreMask 0
     ∷ StoreMode 0
+    ∷ AskViolation
     ∷ [])
     ≡ (0 ∷ 1 ∷ 2 ∷ 3 ∷ 8 ∷ 9 ∷ [])
     ∷ (0 ∷ 1 ∷ 2 ∷ 4 ∷ 5 ∷ 6 ∷ 8 ∷ 11 ∷ 12 ∷ [])
@@ -347,6 +401,7 @@ pub numbers-listed :
     ∷ (0 ∷ 1 ∷ 7 ∷ [])
     ∷ (0 ∷ 1 ∷ 7 ∷ [])
     ∷ (0 ∷ 1 ∷ 17 ∷ 7 ∷ [])
+    ∷ (0 ∷ 1 ∷ 7 ∷ [])
     ∷ [])
     × (soundNumbers ≡ 0 ∷ 2 ∷ 3 ∷ 4 ∷ 5 ∷ 6 ∷ 7 ∷ 8 ∷ 9 ∷ 11 ∷ 12 ∷ 13 ∷ 14 ∷ 15 ∷ 16 ∷ 17 ∷ [])
     × (map (λ (n : ℕ). isIn n (3 ∷ 5 ∷ [])) (0 ∷ 3 ∷ 4 ∷ 5 ∷ 6 ∷ []) ≡ false ∷ true ∷ false ∷ true ∷ false ∷ [])

@@ -8,7 +8,7 @@ use lib.Dec.{leb, ltb}
 use lib.ListN.{getD}
 use Rattle.rules.specs.Registers.{isPrivileged}
 use Rattle.rules.specs.Refusals.{pick}
-use Rattle.machine.specs.Machine.{isSound, rangesHold, memorySize}
+use Rattle.machine.specs.Machine.{isSound, rangesHold, memorySize, violationFits}
 use Rattle.machine.specs.declared.record.Machine.{Machine}
 
 pub and-both : (a b : Bool) → a && b ≡ true → (a ≡ true) × (b ≡ true)
@@ -31,14 +31,20 @@ ranges m =
     ∷ leb (m .programs) 8 ∷ []
 
 -- where the ranges hold, a memory size that is 0 for an exponent out of range is the memory size
-guarded : (r b : Bool) (x : ℕ) → (r ≡ true → b ≡ true) → r && leb (pick b x 0) 65536 ≡ r && leb x 65536
-guarded true b x h = rw (h refl)
-guarded false b x h = refl
+guarded : (r b c d : Bool) (x : ℕ) (fits : ℕ → Bool) → (r ≡ true → b ≡ true)
+    → r && leb (pick b x 0) 65536 && c && d && fits (pick b x 0) ≡ r && leb x 65536 && c && d && fits x
+guarded true b c d x fits h = rw (h refl)
+guarded false b c d x fits h = refl
 
 pub memory-guarded : (m : Machine)
-    → rangesHold m && leb (pick (leb (m .exponent) 12) (memorySize m) 0) 65536 ≡ rangesHold m && leb (memorySize m) 65536
-unfolding ranges
-memory-guarded m = guarded (rangesHold m) (leb (m .exponent) 12) (memorySize m) (λ h. each true (ranges m) h 3)
+    → let guard = pick (leb (m .exponent) 12) (memorySize m) 0 in
+    rangesHold m && leb guard 65536 && ltb (m .current) (m .programs) && not (m .registers .pending && isPrivileged (m .registers .mode))
+    && violationFits (m .programs) guard (m .violations .last)
+    ≡ isSound m
+unfolding isSound ranges
+memory-guarded m =
+    guarded (rangesHold m) (leb (m .exponent) 12) _ _ (memorySize m) (λ size. violationFits (m .programs) size (m .violations .last))
+    (λ h. each true (ranges m) h 3)
 
 -- the facts of a sound machine
 pub record Sound (m : Machine) : Type 0 where
@@ -52,12 +58,14 @@ pub record Sound (m : Machine) : Type 0 where
   pub memory-most : memorySize m ≤ 65536
   pub current-below : m .current < m .programs
   pub calm : m .registers .pending && isPrivileged (m .registers .mode) ≡ false
+  pub violation-fits : violationFits (m .programs) (memorySize m) (m .violations .last) ≡ true
 
 pub sound-facts : (m : Machine) → isSound m ≡ true → Sound m
 unfolding isSound ranges
 sound-facts m h =
     let calm = m .registers .pending && isPrivileged (m .registers .mode) in
-    let s = each true (rangesHold m ∷ leb (memorySize m) 65536 ∷ ltb (m .current) (m .programs) ∷ not calm ∷ []) h in
+    let fits = violationFits (m .programs) (memorySize m) (m .violations .last) in
+    let s = each true (rangesHold m ∷ leb (memorySize m) 65536 ∷ ltb (m .current) (m .programs) ∷ not calm ∷ fits ∷ []) h in
     let r = each true (ranges m) (s 0) in
     record {
       pages-least = leb-true _ _ (r 0);
@@ -70,6 +78,7 @@ sound-facts m h =
       memory-most = leb-true _ _ (s 1);
       current-below = ltb-true _ _ (s 2);
       calm = not-true calm (s 3);
+      violation-fits = s 4;
     }
 
 pub facts-sound : (m : Machine) → Sound m → isSound m ≡ true
@@ -86,13 +95,15 @@ facts-sound m s =
       le-leb _ _ (s .memory-most),
       lt-ltb _ _ (s .current-below),
       s .calm,
+      s .violation-fits,
     )
 
 -- what there is to show for the soundness of a machine of the same shape as a sound one
 pub moved-sound : (m end : Machine) → (end .pages ≡ m .pages) × (end .exponent ≡ m .exponent) × (end .programs ≡ m .programs)
     → isSound m ≡ true → end .depth ≤ 8 → end .current < end .programs
-    → end .registers .pending && isPrivileged (end .registers .mode) ≡ false → isSound end ≡ true
-moved-sound m end shape h deep below calm =
+    → end .registers .pending && isPrivileged (end .registers .mode) ≡ false
+    → violationFits (end .programs) (memorySize end) (end .violations .last) ≡ true → isSound end ≡ true
+moved-sound m end shape h deep below calm fits =
     let s = sound-facts m h in
     facts-sound end
     (record {
@@ -106,4 +117,5 @@ moved-sound m end shape h deep below calm =
       memory-most = rw (shape .0, shape .1) (s .memory-most);
       current-below = below;
       calm = calm;
+      violation-fits = fits;
     })

@@ -1,26 +1,31 @@
--- The eleven calls spelled out for any machine, sound or not: the number from its tests, one behind the other, and the machine after an accepted
--- call by all its parts. The tables of Cases and Pinned try machines that are written out; here none is left out.
+-- The twelve calls spelled out for any machine, sound or not: the number from its tests, one behind the other, and the machine after an accepted
+-- call by all its parts, what 9 keeps and what is reported. The tables of Cases and Pinned try machines that are written out; here none is left out.
 use Prim.Native.Nat.{ℕ, _+_, _-_, _*_, _^_, _/_}
 use mathlib.Core.Path.{_≡_, refl}
 use mathlib.Core.Bool.{Bool, true, false, not, _&&_}
-use mathlib.Core.List.{List, [], _∷_}
+use mathlib.Core.List.{List, [], _∷_, map}
 use lib.Bits.{bitAnd}
 use lib.Dec.{leb, ltb, eqb}
-use lib.ListN.{getD, set}
+use lib.ListN.{getD, set, replicate}
 use Rattle.rules.specs.Domains.{prevailing, isOutside, isNotLower, withBit, withoutBit}
 use Rattle.rules.specs.Refusals.{Check, _⇒_, first, pick}
 use Rattle.rules.specs.declared.registers.Mode.the-variants.{User, Privileged}
 use Rattle.rules.specs.declared.registers.Registers.{Registers}
 use Rattle.rules.specs.Registers.{isPrivileged}
-use Rattle.machine.specs.Calls.{callOf, uncheckedOf, checksOf, accessChecks, changeChecks, effectOf, entered, returned, switched, after}
-use Rattle.machine.specs.Machine.{isSound}
+use Rattle.machine.specs.Calls.{callOf, uncheckedOf, deniedBy, reportOf, checksOf, accessChecks, changeChecks, effectOf, entered, returned, switched, after}
+use Rattle.machine.specs.Machine.{isSound, violationFits}
 use Rattle.machine.specs.declared.record.Machine.{Machine}
 use Rattle.machine.specs.declared.record.Program.{Program}
 use Rattle.machine.specs.declared.record.Page.{Page}
 use Rattle.machine.specs.declared.record.Domain.{Domain}
+use Rattle.machine.specs.declared.record.LastViolation.{LastViolation}
+use Rattle.machine.specs.declared.record.LastViolation.the-variants.{Absent}
+use Rattle.machine.specs.declared.record.Report.{Report}
+use Rattle.machine.specs.declared.record.Report.the-variants.{Nothing, Denied}
+use Rattle.machine.specs.declared.record.Answered.{Answered}
 use Rattle.machine.specs.declared.record.Call.{Call}
-use Rattle.machine.specs.declared.record.Call.the-variants.{Access, Grant, Revoke, SetMask, Enter, Return, Switch, StoreField, StoreContext, StoreMask, StoreMode}
-use Rattle.machine.proofs.Written.{stored, live, whole}
+use Rattle.machine.specs.declared.record.Call.the-variants.{Access, Grant, Revoke, SetMask, Enter, Return, Switch, StoreField, StoreContext, StoreMask, StoreMode, AskViolation}
+use Rattle.machine.proofs.Written.{stored, live, denied, holding}
 
 module _ (m : Machine) where
   abbrev number : Call → ℕ
@@ -42,6 +47,7 @@ module _ (m : Machine) where
       isSound m
       ≡ (leb 1 (m .pages) && leb (m .pages) 128 && leb 5 (m .exponent) && leb (m .exponent) 12 && leb (m .depth) 8 && leb 1 (m .programs) && leb (m .programs) 8)
       && leb (m .pages * 2 ^ m .exponent) 65536 && ltb (m .current) (m .programs) && not (pending && privileged)
+      && violationFits (m .programs) (m .pages * 2 ^ m .exponent) (m .violations .last)
   unfolding isSound
   sound-spelled = refl
 
@@ -90,15 +96,16 @@ module _ (m : Machine) where
       × (number (StoreContext bits) ≡ pick (not privileged) 7 0)
       × (number (StoreMask bits) ≡ pick (not privileged) 7 0)
       × (number (StoreMode mode) ≡ pick (not (leb mode 1)) 17 (pick (not privileged) 7 0))
+      × (number AskViolation ≡ pick (not privileged) 7 0)
   unfolding uncheckedOf checksOf
-  kernel-numbers-spelled right program bits mode page = (refl, refl, refl, refl, refl, refl, refl)
+  kernel-numbers-spelled right program bits mode page = (refl, refl, refl, refl, refl, refl, refl, refl)
 
   -- other fields or other registers alone
   abbrev with-fields : List ℕ → Machine
-  with-fields fields = whole (m .pages) (m .exponent) fields (m .registers) (m .depth) (m .saved) (m .programs) (m .current) (m .table)
+  with-fields fields = holding (m .violations .last) (m .pages) (m .exponent) fields (m .registers) (m .depth) (m .saved) (m .programs) (m .current) (m .table)
 
   abbrev with-registers : Registers → Machine
-  with-registers r = whole (m .pages) (m .exponent) (m .fields) r (m .depth) (m .saved) (m .programs) (m .current) (m .table)
+  with-registers r = holding (m .violations .last) (m .pages) (m .exponent) (m .fields) r (m .depth) (m .saved) (m .programs) (m .current) (m .table)
 
   pub command-effects-spelled : (right address bits : ℕ) (page : Page) (s : Domain)
       → let at = 2 * page .0 + right in
@@ -115,8 +122,9 @@ module _ (m : Machine) where
       × (effectOf m (StoreContext bits) ≡ with-registers (live bits (r .mask) (r .mode) pending))
       × (effectOf m (StoreMask bits) ≡ with-registers (live (r .context) bits (r .mode) pending))
       × (effectOf m (StoreMode mode) ≡ with-registers (live (r .context) (r .mask) (pick (eqb mode 0) User Privileged) pending))
+      × (effectOf m AskViolation ≡ m)
   unfolding effectOf
-  store-effects-spelled right bits mode page = (refl, refl, refl, refl)
+  store-effects-spelled right bits mode page = (refl, refl, refl, refl, refl)
 
   pub turn-effects-spelled : (program : ℕ)
       → let r = m .registers in
@@ -124,23 +132,56 @@ module _ (m : Machine) where
       let table = set (m .table) (m .current) (stored (r .context) (r .mask) (pick (getD (m .saved) 0 false) Privileged User)) in
       let named = getD table program (stored 0 0 User) in
       (effectOf m Enter
-      ≡ whole (m .pages) (m .exponent) (m .fields) (live (r .context) (r .mask) Privileged false) (m .depth + 1)
+      ≡ holding (m .violations .last) (m .pages) (m .exponent) (m .fields) (live (r .context) (r .mask) Privileged false) (m .depth + 1)
       (set (m .saved) (m .depth) privileged) (m .programs) (m .current) (m .table))
       × (effectOf m Return
-      ≡ whole (m .pages) (m .exponent) (m .fields) (live (r .context) (r .mask) (pick (getD (m .saved) top false) Privileged User) pending) top
+      ≡ holding (m .violations .last) (m .pages) (m .exponent) (m .fields) (live (r .context) (r .mask) (pick (getD (m .saved) top false) Privileged User) pending) top
       (set (m .saved) top false) (m .programs) (m .current) (m .table))
       × (effectOf m (Switch program)
-      ≡ whole (m .pages) (m .exponent) (m .fields) (live (named .context) (named .mask) (r .mode) pending) (m .depth)
+      ≡ holding (m .violations .last) (m .pages) (m .exponent) (m .fields) (live (named .context) (named .mask) (r .mode) pending) (m .depth)
       (set (m .saved) 0 (isPrivileged (named .mode))) (m .programs) program table)
   unfolding effectOf entered returned switched
   turn-effects-spelled program = (refl, refl, refl)
 
-  -- a number and an effect put together: 9 sets the flag, any other refusal leaves the machine; and the call by value asks for soundness first
+  -- every call but the access and the question
+  abbrev others : (right bits : ℕ) → Page → Domain → List Call
+  others right bits page s =
+      Grant right page s ∷ Revoke right page s ∷ SetMask bits ∷ Enter ∷ Return ∷ Switch bits ∷ StoreField right page bits ∷ StoreContext bits
+      ∷ StoreMask bits ∷ StoreMode bits ∷ []
+
+  -- what 9 would leave as the last violation: the access that was denied; no other call brings one
+  pub denials-spelled : (right address bits : ℕ) (page : Page) (s : Domain)
+      → (deniedBy m (Access right address) ≡ denied (m .current) right address)
+      × (map (deniedBy m) (AskViolation ∷ others right bits page s) ≡ replicate 11 (m .violations .last))
+  denials-spelled right address bits page s = (refl, refl)
+
+  -- what an accepted call reports: the question what is kept, every other one nothing
+  pub reports-spelled : (right address bits : ℕ) (page : Page) (s : Domain) (program right′ address′ : ℕ)
+      → (map (reportOf m) (Access right address ∷ others right bits page s) ≡ replicate 11 Nothing)
+      × (m .violations .last ≡ Absent → reportOf m AskViolation ≡ Nothing)
+      × (m .violations .last ≡ denied program right′ address′
+      → reportOf m AskViolation ≡ Denied (record { program = program; right = right′; address = address′ }))
+  reports-spelled right address bits page s program right′ address′ = (refl, λ none. rw none, λ was. rw was)
+
+  -- a number, an effect and a report put together: 9 sets the flag and the last violation, any other refusal leaves the machine, and no refusal
+  -- reports anything; and the call by value asks for soundness first
   pub answers-spelled : (call : Call)
       → let n = number call in
-      let spelled : ℕ → Machine = λ k. pick (eqb k 0) (effectOf m call)
-      (pick (eqb k 9) (with-registers (live (m .registers .context) (m .registers .mask) (m .registers .mode) true)) m) in
-      (uncheckedOf m call ≡ record { number = n; machine = spelled n })
-      × (callOf m call ≡ record { number = pick (not (isSound m)) 1 n; machine = spelled (pick (not (isSound m)) 1 n) })
+      let spelled : ℕ → Answered =
+      λ k. record {
+        number = k;
+        machine = pick (eqb k 0) (effectOf m call)
+        (pick (eqb k 9)
+        (holding (deniedBy m call) (m .pages) (m .exponent) (m .fields)
+        (live (m .registers .context) (m .registers .mask) (m .registers .mode) true) (m .depth) (m .saved) (m .programs) (m .current) (m .table)) m);
+        report = pick (eqb k 0) (reportOf m call) Nothing;
+      } in
+      (uncheckedOf m call ≡ spelled n) × (callOf m call ≡ spelled (pick (not (isSound m)) 1 n))
   unfolding callOf uncheckedOf after
   answers-spelled call = (refl, refl)
+
+-- the three clauses that soundness has for a stored violation
+pub fits-spelled : (programs memory program right address : ℕ)
+    → (violationFits programs memory (denied program right address) ≡ ltb program programs && leb right 1 && ltb address memory)
+    × (violationFits programs memory Absent ≡ true)
+fits-spelled programs memory program right address = (refl, refl)

@@ -13,14 +13,15 @@ use lib.Seq.{getD-set-other}
 use Rattle.rules.specs.Registers.{modeWhere, isPrivileged, localContext}
 use Rattle.rules.specs.Refusals.{Check, _⇒_, first, pick}
 use Rattle.rules.specs.declared.registers.Mode.{Mode}
-use Rattle.machine.specs.Machine.{isSound, memorySize, fieldOf, placeOf, noProgram, withFields}
-use Rattle.machine.specs.Calls.{checksOf, accessChecks, changeChecks, effectOf, entered, returned, switched, inPrivilegedMode, inUserMode, isRight, modeOf, numberOf, pageOf}
+use Rattle.rules.specs.declared.registers.Registers.{Registers}
+use Rattle.machine.specs.Machine.{isRight, isSound, memorySize, fieldOf, placeOf, noProgram, withFields, withRegisters}
+use Rattle.machine.specs.Calls.{checksOf, accessChecks, changeChecks, effectOf, entered, returned, switched, inPrivilegedMode, inUserMode, modeOf, numberOf, pageOf}
 use Rattle.machine.specs.Listed.{isIn, ownNumbers, soundNumbers}
 use Rattle.machine.specs.declared.record.Machine.{Machine}
 use Rattle.machine.specs.declared.record.Page.{Page}
 use Rattle.machine.specs.declared.record.Domain.{Domain}
 use Rattle.machine.specs.declared.record.Call.{Call}
-use Rattle.machine.specs.declared.record.Call.the-variants.{Access, Grant, Revoke, SetMask, Enter, Return, Switch, StoreField, StoreContext, StoreMask, StoreMode}
+use Rattle.machine.specs.declared.record.Call.the-variants.{Access, Grant, Revoke, SetMask, Enter, Return, Switch, StoreField, StoreContext, StoreMask, StoreMode, AskViolation}
 use Rattle.machine.proofs.Sound.{and-both, sound-facts, moved-sound}
 use Rattle.machine.proofs.Entitled.{entitled}
 use Rattle.machine.proofs.Answers.{avoids, refuses, metAt, accepted, accepted-unmet, entry-below, switch-named, switch-depth}
@@ -57,10 +58,11 @@ access-either P m right address h =
 abbrev pub shape : Machine → List ℕ
 shape m = m .pages ∷ m .exponent ∷ m .programs ∷ []
 
--- what the effect of an accepted call leaves alone: the shape, the fields past the page count, the entries past the program count, and the
--- places of the stack past the depth but the one that an entry fills
+-- what the effect of an accepted call leaves alone: the shape, the last violation, the fields past the page count, the entries past the program
+-- count, and the places of the stack past the depth but the one that an entry fills
 pub record Left (m : Machine) (call : Call) (end : Machine) : Type 0 where
   pub shaped : shape end ≡ shape m
+  pub last-stays : end .violations .last ≡ m .violations .last
   pub fields-past : (i : ℕ) → 2 * m .pages ≤ i → getD (end .fields) i 0 ≡ getD (m .fields) i 0
   pub programs-past : (i : ℕ) → m .programs ≤ i → getD (end .table) i noProgram ≡ getD (m .table) i noProgram
   pub stack-past : (i : ℕ) → m .depth ≤ i → (call ≡ Enter → i ≡ m .depth → ⊥) → getD (end .saved) i false ≡ getD (m .saved) i false
@@ -90,15 +92,15 @@ plain : (m : Machine) (call : Call) → within (0 ∷ ownNumbers call) (checksOf
 plain m call own one given nine =
     record { own = own; no-one = one; given = λ s. first-within soundNumbers (checksOf m call) given; no-nine = λ e. nine }
 
--- an effect that changes neither shape, nor fields, nor table, nor stack
-untouched : (m : Machine) (call : Call) {end : Machine} → shape end ≡ shape m → end .fields ≡ m .fields → end .table ≡ m .table
-    → end .saved ≡ m .saved → Left m call end
-untouched m call shaped fields table saved =
+-- an effect that changes the registers at most
+untouched : (m : Machine) (call : Call) (r : Registers) → Left m call (withRegisters r m)
+untouched m call r =
     record {
-      shaped = shaped;
-      fields-past = λ i past. rw fields;
-      programs-past = λ i past. rw table;
-      stack-past = λ i past filled. rw saved;
+      shaped = refl;
+      last-stays = refl;
+      fields-past = λ i past. refl;
+      programs-past = λ i past. refl;
+      stack-past = λ i past filled. refl;
     }
 
 -- one that changes a field of a counted page alone
@@ -106,6 +108,7 @@ one-field : (m : Machine) (call : Call) (at bits : ℕ) → at < 2 * m .pages �
 one-field m call at bits counted =
     record {
       shaped = refl;
+      last-stays = refl;
       fields-past = λ i past. getD-set-other (m .fields) at i bits 0 (omega arith);
       programs-past = λ i past. refl;
       stack-past = λ i past filled. refl;
@@ -167,6 +170,7 @@ return-left m n =
     let some = eqb-false (m .depth) 0 (accepted-unmet m Return 1 refl n) in
     record {
       shaped = refl;
+      last-stays = refl;
       fields-past = λ i past. refl;
       programs-past = λ i past. refl;
       stack-past = λ i past filled. getD-set-other (m .saved) (m .depth - 1) i _ false (omega arith);
@@ -179,6 +183,7 @@ switch-left m program n =
     let one = switch-depth m program n in
     record {
       shaped = refl;
+      last-stays = refl;
       fields-past = λ i past. refl;
       programs-past = λ i past. getD-set-other (m .table) (m .current) i _ noProgram (omega arith);
       stack-past = λ i past filled. getD-set-other (m .saved) 0 i _ false (omega arith);
@@ -191,6 +196,7 @@ unfolding entered
 enter-left m =
     record {
       shaped = refl;
+      last-stays = refl;
       fields-past = λ i past. refl;
       programs-past = λ i past. refl;
       stack-past = λ i past filled. getD-set-other (m .saved) (m .depth) i _ false (filled refl);
@@ -227,7 +233,7 @@ pub told : (m : Machine) (call : Call) → Told m call
 unfolding isSound checksOf changeChecks effectOf entered returned switched
 told m (Access right address) =
     let call = Access right address in
-    tell (access-numbered m right address) (program's m call refl) (λ n. untouched m call refl refl refl refl) (λ s n. s)
+    tell (access-numbered m right address) (program's m call refl) (λ n. untouched m call _) (λ s n. s)
 told m (Grant right page d) =
     let call = Grant right page d in
     tell (plain m call refl refl refl refl) (program's m call refl) (λ n. one-field m call (placeOf right (page .0)) _ (change-place m true right page d n)) (λ s n. s)
@@ -236,34 +242,37 @@ told m (Revoke right page d) =
     tell (plain m call refl refl refl refl) (program's m call refl) (λ n. one-field m call (placeOf right (page .0)) _ (change-place m false right page d n)) (λ s n. s)
 told m (SetMask bits) =
     let call = SetMask bits in
-    tell (plain m call refl refl refl refl) (program's m call refl) (λ n. untouched m call refl refl refl refl) (λ s n. s)
+    tell (plain m call refl refl refl refl) (program's m call refl) (λ n. untouched m call _) (λ s n. s)
 told m Enter =
     let call = Enter in
-    tell (plain m call refl refl refl refl) (program's m call refl) (λ n. enter-left m) (λ s n. let below = entry-below m n in moved-sound m (entered m) (refl, refl, refl) s (omega arith) (sound-facts m s .current-below) refl)
+    tell (plain m call refl refl refl refl) (program's m call refl) (λ n. enter-left m) (λ s n. let below = entry-below m n in moved-sound m (entered m) (refl, refl, refl) s (omega arith) (sound-facts m s .current-below) refl (sound-facts m s .violation-fits))
 told m Return =
     let call = Return in
     tell (plain m call refl refl refl refl) (λ lists. kernel's m call 0 refl refl) (return-left m) (λ s n.
     let facts = sound-facts m s in
     let clear = in-privileged-mode m s (accepted-unmet m Return 0 refl n) in
     moved-sound m (returned m) (refl, refl, refl) s (omega arith) (facts .current-below)
-    (clear-calm (modeWhere (getD (m .saved) (m .depth - 1) false)) clear))
+    (clear-calm (modeWhere (getD (m .saved) (m .depth - 1) false)) clear) (facts .violation-fits))
 told m (Switch program) =
     let call = Switch program in
     tell (switch-numbered m program) (λ lists. kernel's m call 0 refl refl) (switch-left m program) (λ s n.
     let facts = sound-facts m s in
-    moved-sound m (switched m program) (refl, refl, refl) s (facts .depth-most) (switch-named m program n) (facts .calm))
+    moved-sound m (switched m program) (refl, refl, refl) s (facts .depth-most) (switch-named m program n) (facts .calm) (facts .violation-fits))
 told m (StoreField right page bits) =
     let call = StoreField right page bits in
     tell (plain m call refl refl refl refl) (λ lists. kernel's m call 2 refl refl) (λ n. one-field m call (placeOf right (page .0)) bits (store-place m right page bits n)) (λ s n. s)
 told m (StoreContext bits) =
     let call = StoreContext bits in
-    tell (plain m call refl refl refl refl) (λ lists. kernel's m call 0 refl refl) (λ n. untouched m call refl refl refl refl) (λ s n. s)
+    tell (plain m call refl refl refl refl) (λ lists. kernel's m call 0 refl refl) (λ n. untouched m call _) (λ s n. s)
 told m (StoreMask bits) =
     let call = StoreMask bits in
-    tell (plain m call refl refl refl refl) (λ lists. kernel's m call 0 refl refl) (λ n. untouched m call refl refl refl refl) (λ s n. s)
+    tell (plain m call refl refl refl refl) (λ lists. kernel's m call 0 refl refl) (λ n. untouched m call _) (λ s n. s)
 told m (StoreMode mode) =
     let call = StoreMode mode in
-    tell (plain m call refl refl refl refl) (λ lists. kernel's m call 1 refl refl) (λ n. untouched m call refl refl refl refl) (λ s n.
+    tell (plain m call refl refl refl refl) (λ lists. kernel's m call 1 refl refl) (λ n. untouched m call _) (λ s n.
     let facts = sound-facts m s in
     let clear = in-privileged-mode m s (accepted-unmet m call 1 refl n) in
-    moved-sound m (effectOf m call) (refl, refl, refl) s (facts .depth-most) (facts .current-below) (clear-calm (modeOf mode) clear))
+    moved-sound m (effectOf m call) (refl, refl, refl) s (facts .depth-most) (facts .current-below) (clear-calm (modeOf mode) clear) (facts .violation-fits))
+told m AskViolation =
+    let call = AskViolation in
+    tell (plain m call refl refl refl refl) (λ lists. kernel's m call 0 refl refl) (λ n. untouched m call _) (λ s n. s)

@@ -14,11 +14,12 @@ use Rattle.rules.specs.Refusals.{pick}
 use Rattle.rules.specs.declared.domains.Prevailing.{Prevailing}
 use Rattle.rules.specs.declared.domains.Prevailing.the-variants.{At}
 use Rattle.rules.proofs.Bits.{and-assoc, unseen, seen-alike, local-held, unmoved}
-use Rattle.machine.specs.Machine.{isSound, placeOf, fieldOf, withFields, withRegisters}
-use Rattle.machine.specs.Calls.{callOf, checksOf, accessChecks, changeChecks, effectOf, numberOf, pageOf}
+use Rattle.machine.specs.Machine.{isSound, placeOf, fieldOf, withFields, withRegisters, withLast}
+use Rattle.machine.specs.Calls.{callOf, checksOf, accessChecks, changeChecks, effectOf, deniedBy, numberOf, pageOf}
 use Rattle.machine.specs.declared.record.Machine.{Machine}
 use Rattle.machine.specs.declared.record.Page.{Page}
 use Rattle.machine.specs.declared.record.Domain.{Domain}
+use Rattle.machine.specs.declared.record.LastViolation.{LastViolation}
 use Rattle.machine.specs.declared.record.Call.{Call}
 use Rattle.machine.specs.declared.record.Call.the-variants.{Access, Grant, Revoke, SetMask}
 use Rattle.machine.proofs.Entitled.{Entitled, entitled}
@@ -95,11 +96,11 @@ pub record Stays (m end : Machine) : Type 0 where
   pub mode : end .registers .mode ≡ m .registers .mode
   pub prevails : prevailingDomains end ≡ prevailingDomains m
 
--- a machine that differs in the mask, the flag or the fields alone
-stays-with : (m : Machine) (mask : ℕ) (pending : Bool) (fields : List ℕ)
+-- a machine that differs in the mask, the flag, the fields or the last violation alone
+stays-with : (m : Machine) (mask : ℕ) (pending : Bool) (fields : List ℕ) (last : LastViolation)
     → map prevailing fields ≡ prevailingDomains m
-    → Stays m (withFields fields (withRegisters (withMask mask (withPending pending (m .registers))) m))
-stays-with m mask pending fields prevails =
+    → Stays m (withLast last (withFields fields (withRegisters (withMask mask (withPending pending (m .registers))) m)))
+stays-with m mask pending fields last prevails =
     record {
       pages = refl;
       exponent = refl;
@@ -115,26 +116,27 @@ stays-with m mask pending fields prevails =
 
 module _ (m : Machine) where
   same-stays : Stays m m
-  same-stays = stays-with m (m .registers .mask) (m .registers .pending) (m .fields) refl
+  same-stays = stays-with m (m .registers .mask) (m .registers .pending) (m .fields) (m .violations .last) refl
 
   pub command-stays : {call : Call} → IsCommand call → Stays m (callOf m call .machine)
   unfolding callOf effectOf
   command-stays (an-access right address) =
-      after-cases (Stays m) (numberOf m (Access right address)) m m (λ _. same-stays)
-      (λ _. stays-with m (m .registers .mask) true (m .fields) refl)
+      let call = Access right address in
+      after-cases (Stays m) (numberOf m call) m call (λ _. same-stays)
+      (λ _. stays-with m (m .registers .mask) true (m .fields) (deniedBy m call) refl)
       same-stays
   command-stays (a-change granting right page s) =
       let call = pick granting (Grant right page s) (Revoke right page s) in
-      after-cases (Stays m) (numberOf m call) m (effectOf m call)
+      after-cases (Stays m) (numberOf m call) m call
       (λ h.
       rw (change-effect m right page s granting)
-      (stays-with m (m .registers .mask) (m .registers .pending) (changedFields m granting right page s)
+      (stays-with m (m .registers .mask) (m .registers .pending) (changedFields m granting right page s) (m .violations .last)
       (change-unmoved m granting right page s (entitled m granting right page s h))))
       (λ h. absurd (not-nine m call (change-avoids m right page s granting) h))
       same-stays
   command-stays (a-mask bits) =
-      after-cases (Stays m) (numberOf m (SetMask bits)) m (effectOf m (SetMask bits))
-      (λ _. stays-with m bits (m .registers .pending) (m .fields) refl)
+      after-cases (Stays m) (numberOf m (SetMask bits)) m (SetMask bits)
+      (λ _. stays-with m bits (m .registers .pending) (m .fields) (m .violations .last) refl)
       (λ h. absurd (not-nine m (SetMask bits) (mask-avoids m bits) h))
       same-stays
 
@@ -151,11 +153,11 @@ pub command-unseen : (m : Machine) {call : Call} → IsCommand call → (context
     → view context (callOf m call .machine) ≡ view context m
 unfolding callOf effectOf
 command-unseen m (an-access right address) context small below =
-    after-cases (λ end. view context end ≡ view context m) (numberOf m (Access right address)) m m
+    after-cases (λ end. view context end ≡ view context m) (numberOf m (Access right address)) m (Access right address)
     (λ _. refl) (λ _. refl) refl
 command-unseen m (a-change granting right page s) context small below =
     let call = pick granting (Grant right page s) (Revoke right page s) in
-    after-cases (λ end. view context end ≡ view context m) (numberOf m call) m (effectOf m call)
+    after-cases (λ end. view context end ≡ view context m) (numberOf m call) m call
     (λ h.
     let e = entitled m granting right page s h in
     let lacks =
@@ -163,7 +165,7 @@ command-unseen m (a-change granting right page s) context small below =
     rw (change-effect m right page s granting) (change-unseen m granting right page s e context small lacks))
     (λ _. refl) refl
 command-unseen m (a-mask bits) context small below =
-    after-cases (λ end. view context end ≡ view context m) (numberOf m (SetMask bits)) m (effectOf m (SetMask bits))
+    after-cases (λ end. view context end ≡ view context m) (numberOf m (SetMask bits)) m (SetMask bits)
     (λ _. refl) (λ _. refl) refl
 
 -- ---- its own program's view
@@ -224,7 +226,7 @@ module _ {context : ℕ} {m n : Machine} (a : Alike context m n) where
   unfolding callOf
   seen-after {call} command number =
       rw number
-      (after-both (SeenAlike context) (numberOf n call) (effects-alike command)
+      (after-both (SeenAlike context) (numberOf n call) call (effects-alike command)
       (ap (withPending true) (a .registers), a .seen) (a .registers, a .seen))
 
   pub alike-after : {call : Call} → IsCommand call → numberOf m call ≡ numberOf n call

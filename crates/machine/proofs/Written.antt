@@ -8,6 +8,8 @@ use Rattle.rules.specs.declared.registers.Mode.{Mode}
 use Rattle.rules.specs.declared.registers.Registers.{Registers}
 use Rattle.machine.specs.declared.record.Machine.{Machine}
 use Rattle.machine.specs.declared.record.Program.{Program}
+use Rattle.machine.specs.declared.record.LastViolation.{LastViolation}
+use Rattle.machine.specs.declared.record.LastViolation.the-variants.{Absent, Was}
 use Rattle.machine.specs.declared.record.Answered.{Answered}
 use Rattle.machine.specs.declared.record.Call.{Call}
 use Rattle.machine.specs.declared.record.Call.the-variants.{Grant, Revoke}
@@ -18,8 +20,12 @@ stored context mask mode = record { context = context; mask = mask; mode = mode 
 abbrev pub live : ℕ → ℕ → Mode → Bool → Registers
 live context mask mode pending = record { context = context; mask = mask; mode = mode; pending = pending }
 
-abbrev pub whole : ℕ → ℕ → List ℕ → Registers → ℕ → List Bool → ℕ → ℕ → List Program → Machine
-whole pages exponent fields registers depth saved programs current table =
+-- the last violation: that program was denied that right to that address
+abbrev pub denied : ℕ → ℕ → ℕ → LastViolation
+denied program right address = Was (record { program = program; right = right; address = address })
+
+abbrev pub holding : LastViolation → ℕ → ℕ → List ℕ → Registers → ℕ → List Bool → ℕ → ℕ → List Program → Machine
+holding last pages exponent fields registers depth saved programs current table =
     record {
       pages = pages;
       exponent = exponent;
@@ -30,7 +36,12 @@ whole pages exponent fields registers depth saved programs current table =
       programs = programs;
       current = current;
       table = table;
+      violations = record { last = last };
     }
+
+-- one that holds no violation
+abbrev pub whole : ℕ → ℕ → List ℕ → Registers → ℕ → List Bool → ℕ → ℕ → List Program → Machine
+whole = holding Absent
 
 -- what calls on a machine answer, each by itself
 abbrev pub Answers : (Machine → Call → Answered) → Machine → List (Call × ℕ) → Type 0

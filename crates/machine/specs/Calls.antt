@@ -1,4 +1,4 @@
--- The eleven calls (RULES, sections 2 and 3): for each its own conditions, in order, and its effect.
+-- The twelve calls (RULES, sections 2 and 3): for each its own conditions, in order, its effect and what it reports.
 use Prim.Native.Nat.{ℕ, _+_, _-_, _^_, _/_}
 use mathlib.Core.Bool.{Bool, true, false, not}
 use mathlib.Core.List.{List, [], _∷_}
@@ -15,14 +15,14 @@ use Rattle.machine.specs.declared.record.Machine.{Machine}
 use Rattle.machine.specs.declared.record.Program.{Program}
 use Rattle.machine.specs.declared.record.Page.{Page}
 use Rattle.machine.specs.declared.record.Domain.{Domain}
+use Rattle.machine.specs.declared.record.LastViolation.{LastViolation}
+use Rattle.machine.specs.declared.record.LastViolation.the-variants.{Absent, Was}
+use Rattle.machine.specs.declared.record.Report.{Report}
+use Rattle.machine.specs.declared.record.Report.the-variants.{Nothing, Denied}
 use Rattle.machine.specs.declared.record.Answered.{Answered}
 use Rattle.machine.specs.declared.record.Call.{Call}
-use Rattle.machine.specs.declared.record.Call.the-variants.{Access, Grant, Revoke, SetMask, Enter, Return, Switch, StoreField, StoreContext, StoreMask, StoreMode}
-use Rattle.machine.specs.Machine.{isSound, memorySize, placeOf, fieldOf, noProgram, withFields, withRegisters, withStack, withPrograms, withLent}
-
--- RULES 1.5: 0 is READ and 1 is WRITE; there is no other right
-abbrev pub isRight : ℕ → Bool
-isRight right = leb right 1
+use Rattle.machine.specs.declared.record.Call.the-variants.{Access, Grant, Revoke, SetMask, Enter, Return, Switch, StoreField, StoreContext, StoreMask, StoreMode, AskViolation}
+use Rattle.machine.specs.Machine.{isRight, isSound, memorySize, placeOf, fieldOf, noProgram, withFields, withRegisters, withStack, withPrograms, withLast, withLent}
 
 -- RULES 1.10: a number as a page, which cannot be passed for a domain
 abbrev pub asPage : ℕ → Page
@@ -93,6 +93,8 @@ checksOf m (StoreContext bits) = (inUserMode m ⇒ 7) ∷ []
 checksOf m (StoreMask bits) = (inUserMode m ⇒ 7) ∷ []
 -- RULES 3.22: the store of the mode, where 17 comes before 7
 checksOf m (StoreMode mode) = (not (leb mode 1) ⇒ 17) ∷ (inUserMode m ⇒ 7) ∷ []
+-- RULES 3.24: the question for the last violation
+checksOf m AskViolation = (inUserMode m ⇒ 7) ∷ []
 
 -- RULES 2.3, 2.8: a call's number by its own conditions alone
 abbrev pub ownNumberOf : Machine → Call → ℕ
@@ -154,17 +156,61 @@ effectOf m (StoreContext bits) = withRegisters (withContext bits (m .registers))
 effectOf m (StoreMask bits) = withRegisters (withMask bits (m .registers)) m
 effectOf m (StoreMode mode) = withRegisters (withMode (modeOf mode) (m .registers)) m
 
--- RULES 3.3: a violation sets the flag
-abbrev pub violated : Machine → Machine
-violated m = withRegisters (withPending true (m .registers)) m
+-- RULES 3.25: the question changes nothing, so that it can be asked again
+effectOf m AskViolation = m
 
--- RULES 2.3, 2.5: the machine after a call by its number: the effect on 0, the flag set on 9, the machine as it was on any other
-unfoldable pub after : ℕ → Machine → Machine → Machine
-after number m effect = pick (eqb number 0) effect (pick (eqb number 9) (violated m) m)
+-- RULES 1.16, 3.3: what an answer of 9 leaves as the last violation: the current program was denied that right to that address.
+abbrev pub deniedBy : Machine → Call → LastViolation
+deniedBy m (Access right address) = Was (record { program = m .current; right = right; address = address })
+-- RULES 9.1: no other call answers 9, and the last violation stays
+deniedBy m (Grant right page s) = m .violations .last
+deniedBy m (Revoke right page s) = m .violations .last
+deniedBy m (SetMask bits) = m .violations .last
+deniedBy m Enter = m .violations .last
+deniedBy m Return = m .violations .last
+deniedBy m (Switch program) = m .violations .last
+deniedBy m (StoreField right page bits) = m .violations .last
+deniedBy m (StoreContext bits) = m .violations .last
+deniedBy m (StoreMask bits) = m .violations .last
+deniedBy m (StoreMode mode) = m .violations .last
+deniedBy m AskViolation = m .violations .last
 
--- RULES 2.1: a call's answer, which is a number and the machine after it
+-- RULES 3.3: a violation sets the flag, and is the last one from now on
+abbrev pub violated : Machine → Call → Machine
+violated m call = withLast (deniedBy m call) (withRegisters (withPending true (m .registers)) m)
+
+-- RULES 2.3, 2.5: the machine after a call by its number: the effect on 0, the violation on 9, the machine as it was on any other
+unfoldable pub after : ℕ → Machine → Call → Machine
+after number m call = pick (eqb number 0) (effectOf m call) (pick (eqb number 9) (violated m call) m)
+
+-- RULES 3.25: the last violation as a report; where there is none, nothing is reported
+abbrev pub handedOut : LastViolation → Report
+handedOut Absent = Nothing
+handedOut (Was violation) = Denied violation
+
+-- RULES 2.13: what a call reports that nothing refuses. The question hands out the last violation, and no other call reports anything.
+abbrev pub reportOf : Machine → Call → Report
+reportOf m (Access right address) = Nothing
+reportOf m (Grant right page s) = Nothing
+reportOf m (Revoke right page s) = Nothing
+reportOf m (SetMask bits) = Nothing
+reportOf m Enter = Nothing
+reportOf m Return = Nothing
+reportOf m (Switch program) = Nothing
+reportOf m (StoreField right page bits) = Nothing
+reportOf m (StoreContext bits) = Nothing
+reportOf m (StoreMask bits) = Nothing
+reportOf m (StoreMode mode) = Nothing
+reportOf m AskViolation = handedOut (m .violations .last)
+
+-- RULES 2.1, 2.13: a call's answer: a number, the machine after it, and what it reports, which is nothing where it is refused
 abbrev pub answerBy : ℕ → Machine → Call → Answered
-answerBy number m call = record { number = number; machine = after number m (effectOf m call) }
+answerBy number m call =
+    record { number = number; machine = after number m call; report = pick (eqb number 0) (reportOf m call) Nothing }
+
+-- RULES 2.13: an answer that reports nothing
+abbrev pub silent : ℕ → Machine → Answered
+silent number machine = record { number = number; machine = machine; report = Nothing }
 
 -- RULES 2.8: the call without the check for 1, on any machine; for a caller that knows its machine to be sound
 unfoldable pub uncheckedOf : Machine → Call → Answered
@@ -181,4 +227,5 @@ changeCall granting right page s = pick granting (Grant right page s) (Revoke ri
 -- RULES 2.10: what comes back of a call on a lent part. What it changed there stands in the lent one; the machine of the answer keeps its own
 -- fields and stack.
 abbrev pub keeping : Machine → Answered → Answered
-keeping own answer = record { number = answer .number; machine = withLent (own .fields) (own .saved) (answer .machine) }
+keeping own answer =
+    record { number = answer .number; machine = withLent (own .fields) (own .saved) (answer .machine); report = answer .report }

@@ -4,7 +4,7 @@ use mathlib.Core.Bool.{Bool, false, _||_}
 use mathlib.Core.List.{List, [], _∷_}
 use lib.Dec.{eqb}
 use Rattle.machine.specs.declared.record.Call.{Call}
-use Rattle.machine.specs.declared.record.Call.the-variants.{Access, Grant, Revoke, SetMask, Enter, Return, Switch, StoreField, StoreContext, StoreMask, StoreMode}
+use Rattle.machine.specs.declared.record.Call.the-variants.{Access, Grant, Revoke, SetMask, Enter, Return, Switch, StoreField, StoreContext, StoreMask, StoreMode, AskViolation}
 
 -- a number stands in a list
 abbrev pub isIn : ℕ → List ℕ → Bool
@@ -24,6 +24,7 @@ ownNumbers (StoreField right page bits) = 2 ∷ 4 ∷ 7 ∷ []
 ownNumbers (StoreContext bits) = 7 ∷ []
 ownNumbers (StoreMask bits) = 7 ∷ []
 ownNumbers (StoreMode mode) = 17 ∷ 7 ∷ []
+ownNumbers AskViolation = 7 ∷ []
 
 -- RULES 9.1: all numbers of a call by value: 0 and 1 beside its own
 abbrev pub listed : Call → List ℕ

@@ -1,4 +1,4 @@
-// The eleven calls (RULES, sections 2 and 3). Beside each public method stands the call without the check for 1 (RULES 2.8), for a
+// The twelve calls (RULES, sections 2 and 3). Beside each public method stands the call without the check for 1 (RULES 2.8), for a
 // caller that knows its machine to be sound: by value (`.._unchecked`), or on a part of the machine that the caller keeps beside it and
 // lends (`.._lent`), so that a loop over calls need not carry fields and stack in its machine. The public method is that call behind one test
 // for soundness, written out in each: a helper that hands the machine on costs copies of it (docs/PERFORMANCE.md). The switch alone hands its
@@ -9,6 +9,7 @@ use crate::record::Domain;
 use crate::record::Machine;
 use crate::record::Page;
 use crate::record::Program;
+use crate::record::Report;
 use crate::record::page_of;
 use crate::record::place;
 use crate::record::read_field;
@@ -37,7 +38,7 @@ ghost use Rattle.rules.specs.Domains.{prevailing, withBit, withoutBit};
 ghost use Rattle.rules.specs.Refusals.{pick, first, _⇒_};
 ghost use Rattle.machine.specs.Machine.{isSound, withFields, withStack};
 ghost use Rattle.machine.specs.declared.record.Call.{Call};
-ghost use Rattle.machine.specs.Calls.{callOf, uncheckedOf, answerBy, ownNumberOf, keeping, changeCall, accessChecks, changeChecks, inUserMode, modeOf};
+ghost use Rattle.machine.specs.Calls.{callOf, uncheckedOf, answerBy, ownNumberOf, keeping, changeCall, accessChecks, changeChecks, inUserMode, modeOf, silent};
 
 // The new value where a call was accepted, else the old one.
 fn chosen(done: bool, new: u16, old: u16) -> u16
@@ -86,13 +87,15 @@ pub fn mode_of(number: u16) -> Mode
 impl Answered {
     // The answer with the stack that was lent.
     fn with_saved(self, saved: [bool; 8]) -> Answered
-        ensures { λ r. ⌜ r ≡ record { number = self .number; machine = withStack (self .machine .depth) saved (self .machine) } ⌝ }
+        ensures { λ r. ⌜ r ≡ record { number = self .number; machine = withStack (self .machine .depth) saved (self .machine); report = self .report } ⌝ }
     {
         let mut machine = self.machine;
+        let report = self.report;
         machine.saved = saved;
         Answered {
             number: self.number,
             machine,
+            report,
         }
     }
 }
@@ -100,12 +103,13 @@ impl Answered {
 impl Machine {
     // A number, and the machine with the fields that were lent.
     fn answered_with(mut self, number: u8, fields: [u16; 256]) -> Answered
-        ensures { λ r. ⌜ r ≡ record { number = number; machine = withFields fields self } ⌝ }
+        ensures { λ r. ⌜ r ≡ silent number (withFields fields self) ⌝ }
     {
         self.fields = fields;
         Answered {
             number,
             machine: self,
+            report: Report::Nothing,
         }
     }
 
@@ -132,10 +136,13 @@ impl Machine {
         let field = read_field(fields, at);
         let number = self.access_at(right, address, field);
         let after = registers.or_where(number == 9, registers.with_pending(true));
+        let violations = self.violations.or_denied(number == 9, self.current, right, address);
         self.registers = after;
+        self.violations = violations;
         Answered {
             number,
             machine: self,
+            report: Report::Nothing,
         }
     }
 
@@ -147,6 +154,7 @@ impl Machine {
             return Answered {
                 number: 1,
                 machine: self,
+                report: Report::Nothing,
             };
         }
         let fields = self.fields;
@@ -198,6 +206,7 @@ impl Machine {
             return Answered {
                 number: 1,
                 machine: self,
+                report: Report::Nothing,
             };
         }
         let mut fields = self.fields;
@@ -213,6 +222,7 @@ impl Machine {
             return Answered {
                 number: 1,
                 machine: self,
+                report: Report::Nothing,
             };
         }
         let mut fields = self.fields;
@@ -233,6 +243,7 @@ impl Machine {
         Answered {
             number,
             machine: self,
+            report: Report::Nothing,
         }
     }
 
@@ -244,6 +255,7 @@ impl Machine {
             return Answered {
                 number: 1,
                 machine: self,
+                report: Report::Nothing,
             };
         }
         self.set_mask_unchecked(mask)
@@ -268,6 +280,7 @@ impl Machine {
         Answered {
             number,
             machine: self,
+            report: Report::Nothing,
         }
     }
 
@@ -279,6 +292,7 @@ impl Machine {
             return Answered {
                 number: 1,
                 machine: self,
+                report: Report::Nothing,
             };
         }
         let mut saved = self.saved;
@@ -306,6 +320,7 @@ impl Machine {
         Answered {
             number,
             machine: self,
+            report: Report::Nothing,
         }
     }
 
@@ -317,6 +332,7 @@ impl Machine {
             return Answered {
                 number: 1,
                 machine: self,
+                report: Report::Nothing,
             };
         }
         let mut saved = self.saved;
@@ -363,6 +379,7 @@ impl Machine {
         Answered {
             number,
             machine: self,
+            report: Report::Nothing,
         }
     }
 
@@ -408,6 +425,7 @@ impl Machine {
             return Answered {
                 number: 1,
                 machine: self,
+                report: Report::Nothing,
             };
         }
         let mut fields = self.fields;
@@ -415,7 +433,8 @@ impl Machine {
         self.answered_with(number, fields)
     }
 
-    // The number of the kernel's store of the global context or the mask.
+    // The number of a call that is refused in user mode alone: the kernel's stores of the global context and the mask, and the question for the
+    // last violation.
     fn register_store_number(self) -> u8
         ensures { λ r. ⌜ r ≡ first ((inUserMode self ⇒ 7) ∷ []) ⌝ }
     {
@@ -434,6 +453,7 @@ impl Machine {
         Answered {
             number,
             machine: self,
+            report: Report::Nothing,
         }
     }
 
@@ -445,6 +465,7 @@ impl Machine {
             return Answered {
                 number: 1,
                 machine: self,
+                report: Report::Nothing,
             };
         }
         self.store_context_unchecked(bits)
@@ -461,6 +482,7 @@ impl Machine {
         Answered {
             number,
             machine: self,
+            report: Report::Nothing,
         }
     }
 
@@ -472,6 +494,7 @@ impl Machine {
             return Answered {
                 number: 1,
                 machine: self,
+                report: Report::Nothing,
             };
         }
         self.store_mask_unchecked(bits)
@@ -488,6 +511,7 @@ impl Machine {
         Answered {
             number,
             machine: self,
+            report: Report::Nothing,
         }
     }
 
@@ -499,8 +523,36 @@ impl Machine {
             return Answered {
                 number: 1,
                 machine: self,
+                report: Report::Nothing,
             };
         }
         self.store_mode_unchecked(mode)
+    }
+
+    // The question for the last violation, without the check for 1 (RULES 2.8).
+    pub fn ask_violation_unchecked(self) -> Answered
+        ensures { λ r. ⌜ r ≡ uncheckedOf self Call.AskViolation ⌝ }
+    {
+        let number = self.register_store_number();
+        let report = self.violations.handed_out(number == 0);
+        Answered {
+            number,
+            machine: self,
+            report,
+        }
+    }
+
+    // The question for the last violation (RULES 3.24, 3.25).
+    pub fn ask_violation(self) -> Answered
+        ensures { λ r. ⌜ r ≡ callOf self Call.AskViolation ⌝ }
+    {
+        if !self.sound() {
+            return Answered {
+                number: 1,
+                machine: self,
+                report: Report::Nothing,
+            };
+        }
+        self.ask_violation_unchecked()
     }
 }

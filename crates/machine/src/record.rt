@@ -8,7 +8,10 @@ ghost use lib.Dec.{leb};
 ghost use lib.ListN.{getD, set};
 ghost use Rattle.rules.specs.Refusals.{pick};
 ghost use Rattle.rules.specs.Registers.{isPrivileged, modeWhere};
-ghost use Rattle.machine.specs.Machine.{zero, isSound, placeOf, noProgram};
+ghost use Rattle.machine.specs.Machine.{zero, isSound, violationFits, placeOf, noProgram};
+ghost use Rattle.machine.specs.Calls.{handedOut};
+ghost use Rattle.machine.specs.declared.record.LastViolation.the-variants.{Was};
+ghost use Rattle.machine.specs.declared.record.Report.the-variants.{Nothing};
 
 // What is stored for a program: global context, mask and mode (RULES 1.2).
 pub struct Program {
@@ -23,6 +26,24 @@ pub struct Page(pub u16);
 // A domain number.
 pub struct Domain(pub u16);
 
+// A violation: the program that was denied, and the right and the whole address of its access (RULES 1.16).
+pub struct Violation {
+    pub program: u16,
+    pub right: u8,
+    pub address: u32,
+}
+
+// The last violation, or that there was none since the load.
+pub enum LastViolation {
+    Absent,
+    Was(Violation),
+}
+
+// What the machine keeps of violations.
+pub struct Violations {
+    pub last: LastViolation,
+}
+
 // The parts of RULES 1.2. The field of a right r to page p stands at 2p + r. A saved mode is kept as whether it is privileged.
 pub struct Machine {
     pub pages: u16,
@@ -34,15 +55,23 @@ pub struct Machine {
     pub programs: u16,
     pub current: u16,
     pub table: [Program; 8],
+    pub violations: Violations,
 }
 
-// What a call gives back: its number and the machine after it (RULES 2.1).
+// What an answer reports beside its number and its machine (RULES 2.13).
+pub enum Report {
+    Nothing,
+    Denied(Violation),
+}
+
+// What a call gives back: its number, the machine after it, and what it reports (RULES 2.1).
 pub struct Answered {
     pub number: u8,
     pub machine: Machine,
+    pub report: Report,
 }
 
-// One of the eleven calls (RULES 2.1), with arguments of the widths of RULES 2.6.
+// One of the twelve calls (RULES 2.1), with arguments of the widths of RULES 2.6.
 pub enum Call {
     Access(u8, u32),
     Grant(u8, Page, Domain),
@@ -55,6 +84,50 @@ pub enum Call {
     StoreContext(u16),
     StoreMask(u16),
     StoreMode(u16),
+    AskViolation,
+}
+
+impl Violations {
+    // Whether a sound machine of this program count and memory size may keep them (RULES 1.11).
+    pub fn fit(self, programs: u16, memory: u32) -> bool
+        ensures { λ r. ⌜ r ≡ violationFits programs memory (self .last) ⌝ }
+    {
+        let last = self.last;
+        let LastViolation::Was(violation) = last else {
+            return true;
+        };
+        (violation.program < programs) & (violation.right <= 1) & (violation.address < memory)
+    }
+
+    // With another last one where an access was denied (RULES 3.3).
+    pub fn or_denied(self, denied: bool, program: u16, right: u8, address: u32) -> Violations
+        ensures { λ r. ⌜ r ≡ record { last = pick denied (Was (record { program = program; right = right; address = address })) (self .last) } ⌝ }
+    {
+        if denied {
+            return Violations {
+                last: LastViolation::Was(Violation {
+                    program,
+                    right,
+                    address,
+                }),
+            };
+        }
+        self
+    }
+
+    // What the question for the last one reports: it where the question is answered, nothing where it is refused (RULES 2.13, 3.25).
+    pub fn handed_out(self, answered: bool) -> Report
+        ensures { λ r. ⌜ r ≡ pick answered (handedOut (self .last)) Nothing ⌝ }
+    {
+        if !answered {
+            return Report::Nothing;
+        }
+        let last = self.last;
+        let LastViolation::Was(violation) = last else {
+            return Report::Nothing;
+        };
+        Report::Denied(violation)
+    }
 }
 
 impl Machine {
@@ -90,6 +163,9 @@ impl Machine {
                 mask: 0,
                 mode: Mode::User,
             }; 8],
+            violations: Violations {
+                last: LastViolation::Absent,
+            },
         }
     }
 
@@ -98,6 +174,8 @@ impl Machine {
         ensures { λ r. ⌜ r ≡ isSound self ⌝ }
     {
         let registers = self.registers;
+        let violations = self.violations;
+        let memory = memory_size(self.pages, self.exponent);
         (1 <= self.pages)
             & (self.pages <= Machine::PAGES)
             & (5 <= self.exponent)
@@ -105,9 +183,10 @@ impl Machine {
             & (self.depth <= Machine::DEPTH)
             & (1 <= self.programs)
             & (self.programs <= Machine::PROGRAMS)
-            & (memory_size(self.pages, self.exponent) <= 65536)
+            & (memory <= 65536)
             & (self.current < self.programs)
             & !(registers.pending & registers.privileged())
+            & violations.fit(self.programs, memory)
     }
 }
 

@@ -3,11 +3,11 @@ use Prim.Native.Nat.{ℕ, _+_, _*_}
 use mathlib.Core.List.{List, [], _∷_}
 use lib.ListN.{getD}
 use Rattle.image.specs.Bytes.{wordOf}
-use Rattle.machine.specs.Calls.{asPage, asDomain, callOf, uncheckedOf}
+use Rattle.machine.specs.Calls.{asPage, asDomain, callOf, uncheckedOf, silent}
 use Rattle.machine.specs.declared.record.Machine.{Machine}
 use Rattle.machine.specs.declared.record.Answered.{Answered}
 use Rattle.machine.specs.declared.record.Call.{Call}
-use Rattle.machine.specs.declared.record.Call.the-variants.{Access, Grant, Revoke, SetMask, Enter, Return, Switch, StoreField, StoreContext, StoreMask, StoreMode}
+use Rattle.machine.specs.declared.record.Call.the-variants.{Access, Grant, Revoke, SetMask, Enter, Return, Switch, StoreField, StoreContext, StoreMask, StoreMode, AskViolation}
 use Rattle.run.specs.declared.records.Decoded.{Decoded}
 use Rattle.run.specs.declared.records.Decoded.the-variants.{Known, Unknown}
 
@@ -26,6 +26,7 @@ kinds right a b =
     ∷ Known (StoreContext b)
     ∷ Known (StoreMask b)
     ∷ Known (StoreMode b)
+    ∷ Known AskViolation
     ∷ []
 
 -- RULES 6.6: a kind past the last is no call either
@@ -45,7 +46,7 @@ callsOf (k ∷ r ∷ a ∷ a′ ∷ b ∷ b′ ∷ rest) = callOfKind k r (wordO
 -- RULES 6.6: what is no call is answered by 18, on any machine, which stays as it is
 unfoldable pub stepBy : (Machine → Call → Answered) → Machine → Decoded → Answered
 stepBy made m (Known call) = made m call
-stepBy made m Unknown = record { number = 18; machine = m }
+stepBy made m Unknown = silent 18 m
 
 -- RULES 6.7: a step by the calls by value, whose answers are those of a run
 abbrev pub stepOf : Machine → Decoded → Answered

@@ -6,6 +6,7 @@ use image::bytes::word_of;
 use image::load;
 use machine::record::Answered;
 use machine::record::Machine;
+use machine::record::Report;
 ghost use mathlib.Core.Path.{_≡_};
 ghost use mathlib.Core.List.{_++_};
 ghost use Prim.Native.Nat.{_+_, _-_, _/_, _≤_, min};
@@ -55,6 +56,7 @@ fn answer_calls(start: Machine, input: &[u8], from: usize, count: usize, answers
     let mut answered = Answered {
         number: 0,
         machine: start,
+        report: Report::Nothing,
     };
     let mut at = from;
     let mut i: usize = 1;

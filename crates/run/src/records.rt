@@ -5,6 +5,7 @@ use machine::record::Call;
 use machine::record::Domain;
 use machine::record::Machine;
 use machine::record::Page;
+use machine::record::Report;
 ghost use mathlib.Core.Path.{_≡_};
 ghost use Prim.Native.Nat.{_+_, _*_, _≤_};
 ghost use lib.ListN.{length, getD};
@@ -13,7 +14,7 @@ ghost use Rattle.machine.specs.Machine.{withLent};
 ghost use Rattle.machine.specs.Calls.{keeping};
 ghost use Rattle.run.specs.Records.{callOfKind, uncheckedStepOf};
 
-// A record read: one of the eleven calls, or none of them.
+// A record read: one of the twelve calls, or none of them.
 pub enum Decoded {
     Known(Call),
     Unknown,
@@ -42,6 +43,7 @@ pub fn call_of_kind(kind: u8, right: u8, a: u16, b: u16) -> Decoded
         9 => Decoded::Known(Call::StoreContext(b)),
         10 => Decoded::Known(Call::StoreMask(b)),
         11 => Decoded::Known(Call::StoreMode(b)),
+        12 => Decoded::Known(Call::AskViolation),
         _ => Decoded::Unknown,
     }
 }
@@ -70,6 +72,7 @@ pub fn step(machine: Machine, fields: &mut [u16], saved: &mut [bool], decoded: D
         return Answered {
             number: 18,
             machine,
+            report: Report::Nothing,
         };
     };
     match call {
@@ -78,11 +81,19 @@ pub fn step(machine: Machine, fields: &mut [u16], saved: &mut [bool], decoded: D
         }
         Call::Grant(right, page, domain) => {
             let number = machine.change_lent(fields, true, right, page, domain);
-            return Answered { number, machine };
+            return Answered {
+                number,
+                machine,
+                report: Report::Nothing,
+            };
         }
         Call::Revoke(right, page, domain) => {
             let number = machine.change_lent(fields, false, right, page, domain);
-            return Answered { number, machine };
+            return Answered {
+                number,
+                machine,
+                report: Report::Nothing,
+            };
         }
         Call::SetMask(mask) => {
             return machine.set_mask_unchecked(mask);
@@ -98,7 +109,11 @@ pub fn step(machine: Machine, fields: &mut [u16], saved: &mut [bool], decoded: D
         }
         Call::StoreField(right, page, bits) => {
             let number = machine.store_lent(fields, right, page, bits);
-            return Answered { number, machine };
+            return Answered {
+                number,
+                machine,
+                report: Report::Nothing,
+            };
         }
         Call::StoreContext(bits) => {
             return machine.store_context_unchecked(bits);
@@ -108,6 +123,9 @@ pub fn step(machine: Machine, fields: &mut [u16], saved: &mut [bool], decoded: D
         }
         Call::StoreMode(mode) => {
             return machine.store_mode_unchecked(mode);
+        }
+        Call::AskViolation => {
+            return machine.ask_violation_unchecked();
         }
     }
 }

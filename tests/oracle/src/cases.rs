@@ -1,13 +1,15 @@
 //! The stored runs, in a fixed order. Each says what it is for and, by hand from
 //! the rules, which answers are due; the unit tests hold the oracle to them.
 //!
-//! A run starts from a loaded machine, which is sound, and every call keeps it so.
+//! A run starts from a loaded machine, which is sound, and every call keeps it so; a violation
+//! is stored by a program of the table with a right and an address that were found good before.
 //! So no case has answer 1, or answer 10, which waits behind 1.
 
 mod commands;
 mod kernel;
 mod lengths;
 mod loader;
+mod questions;
 mod sample;
 
 use crate::histories;
@@ -65,6 +67,7 @@ pub fn all() -> Vec<Case> {
     sample::add(&mut cases);
     commands::add(&mut cases);
     kernel::add(&mut cases);
+    questions::add(&mut cases);
     loader::add(&mut cases);
     lengths::add(&mut cases);
     for seed in 1..=12 {

@@ -12,9 +12,12 @@ extern "C" {
 /// An answer that can occur and was reached fewer times than this was not tried well.
 const LEAST: u64 = 20;
 
-/// Which answers can occur in a run for each kind; row 0 is for unknown kinds.
+/// A row for each kind that is a call; row 0 is for unknown kinds.
+const ROWS: usize = run::LAST_KIND as usize + 1;
+
+/// Which answers can occur in a run for each kind.
 /// A loaded machine is sound and stays so, so 1 and 10 cannot.
-const CAN_OCCUR: [(&str, &[u8]); 12] = [
+const CAN_OCCUR: [(&str, &[u8]); ROWS] = [
     ("unknown kind", &[18]),
     ("access", &[0, 2, 3, 8, 9]),
     ("grant", &[0, 2, 4, 5, 6, 8, 11, 12]),
@@ -27,18 +30,19 @@ const CAN_OCCUR: [(&str, &[u8]); 12] = [
     ("context store", &[0, 7]),
     ("mask store", &[0, 7]),
     ("mode store", &[0, 7, 17]),
+    ("question", &[0, 7]),
 ];
 const LOAD_CAN_OCCUR: (&str, &[u8]) = ("load", &[0, 20, 21, 22, 23, 24, 25]);
 
 struct Table {
     load: [u64; 256],
-    kinds: [[u64; 256]; 12],
+    kinds: [[u64; 256]; ROWS],
     too_long: u64,
 }
 
 impl Table {
     fn new() -> Table {
-        Table { load: [0; 256], kinds: [[0; 256]; 12], too_long: 0 }
+        Table { load: [0; 256], kinds: [[0; 256]; ROWS], too_long: 0 }
     }
 
     fn count(&mut self, input: &[u8], answers: &[u8]) {
@@ -49,7 +53,7 @@ impl Table {
         self.load[load as usize] += 1;
         let (_, records) = run::split(input);
         for (record, &answer) in records.chunks_exact(run::RECORD).zip(calls) {
-            let kind = if record[0] <= 11 { record[0] } else { 0 };
+            let kind = if record[0] <= run::LAST_KIND { record[0] } else { 0 };
             self.kinds[kind as usize][answer as usize] += 1;
         }
     }
@@ -63,7 +67,7 @@ impl Table {
         println!("{:14}answer:times", "");
         println!("{:14}{}", "too long", self.too_long);
         let mut good = row(LOAD_CAN_OCCUR, &self.load);
-        for kind in (1..12).chain([0]) {
+        for kind in (1..ROWS).chain([0]) {
             good &= row(CAN_OCCUR[kind], &self.kinds[kind]);
         }
         good

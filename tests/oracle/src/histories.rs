@@ -4,7 +4,7 @@
 use crate::image::load;
 use crate::machine::{bit, prevailing, Machine, Page, MOST_SAVED};
 use crate::random::Random;
-use crate::run::{step, RECORD};
+use crate::run::{step, LAST_KIND, RECORD};
 use crate::write::*;
 
 /// A legal image, about so many calls, and at times a remainder.
@@ -87,7 +87,11 @@ pub fn history(random: &mut Random, image: &[u8], calls: usize) -> Vec<u8> {
         if history.stuck() && history.random.chance(25) {
             break;
         }
-        history.one_call();
+        if history.random.chance(3) {
+            history.denial();
+        } else {
+            history.one_call();
+        }
     }
     if calls > 0 && history.random.chance(50) {
         if history.random.chance(50) {
@@ -101,17 +105,17 @@ pub fn history(random: &mut Random, image: &[u8], calls: usize) -> Vec<u8> {
 
 /// A short list of records that change much, and that more often than not leaves the machine
 /// as a load does: on program 0, at depth 0, with the flag clear. Nothing is shown by accesses
-/// afterwards, since the writer shows it all.
+/// afterwards, since the writer shows it all but the last violation, which the questions show.
 pub fn changes(random: &mut Random, image: &[u8], calls: usize) -> Vec<u8> {
     let machine = load(image).expect("the image is legal");
     let pool = Pool::new(random);
     let (nesting, sinking) = (random.chance(10), random.chance(5));
     let mut history = History { random, machine, pool, nesting, sinking, records: Vec::new() };
     while history.records.len() < calls * RECORD {
-        if history.random.chance(20) {
-            history.visit();
-        } else {
-            history.one_call();
+        match history.random.below(100) {
+            0..=17 => history.visit(),
+            18..=32 => history.denial(),
+            _ => history.one_call(),
         }
     }
     if history.random.chance(60) {
@@ -138,7 +142,7 @@ const RETURN: usize = 5;
 impl History<'_> {
     fn put(&mut self, record: Record) -> u8 {
         self.records.extend(record);
-        step(&mut self.machine, &record)
+        step(&mut self.machine, &record).number()
     }
 
     fn stuck(&self) -> bool {
@@ -146,13 +150,13 @@ impl History<'_> {
     }
 
     fn one_call(&mut self) {
-        // Access, grant, revoke, mask, entry, return, switch, the four stores, an unknown kind.
+        // Access, grant, revoke, mask, entry, return, switch, the four stores, the question, an unknown kind.
         let mut weights = match (self.machine.privileged(), self.machine.pending, self.machine.depth()) {
-            (false, false, _) => [30, 14, 14, 8, 9, 2, 3, 3, 2, 2, 3, 1],
-            (false, true, _) => [6, 3, 3, 3, 20, 1, 1, 1, 1, 1, 2, 1],
-            (true, _, 0) => [5, 2, 2, 2, 8, 3, 4, 5, 3, 3, 8, 1],
-            (true, _, 1) => [4, 2, 2, 2, 4, 16, 16, 5, 3, 3, 3, 1],
-            (true, _, _) => [4, 2, 2, 2, 6, 14, 4, 4, 2, 2, 3, 1],
+            (false, false, _) => [30, 14, 14, 8, 9, 2, 3, 3, 2, 2, 3, 2, 1],
+            (false, true, _) => [6, 3, 3, 3, 20, 1, 1, 1, 1, 1, 2, 2, 1],
+            (true, _, 0) => [5, 2, 2, 2, 8, 3, 4, 5, 3, 3, 8, 4, 1],
+            (true, _, 1) => [4, 2, 2, 2, 4, 16, 16, 5, 3, 3, 3, 7, 1],
+            (true, _, _) => [4, 2, 2, 2, 6, 14, 4, 4, 2, 2, 3, 4, 1],
         };
         if self.nesting {
             weights[ENTRY] *= 6;
@@ -167,6 +171,7 @@ impl History<'_> {
             7 => record(kind, 0, 0, self.a_program()),
             8 => record(kind, self.a_right(), self.a_page(), self.pool.bits(self.random)),
             11 => record(kind, 0, 0, self.a_mode()),
+            12 => question(),
             _ => record(self.an_unknown_kind(), self.random.byte(), self.random.word(), self.random.word()),
         };
         let record = self.with_noise(record);
@@ -178,7 +183,7 @@ impl History<'_> {
         if self.random.chance(40) {
             let unused = match record[0] {
                 4 | 7 | 9 | 10 | 11 => 1..4,
-                5 | 6 => 1..6,
+                5 | 6 | 12 => 1..6,
                 _ => 1..1,
             };
             record[unused].fill_with(|| self.random.byte());
@@ -241,10 +246,11 @@ impl History<'_> {
         }
     }
 
+    /// Never 13, which a later request makes a call.
     fn an_unknown_kind(&mut self) -> u8 {
-        let known = self.random.between(1, 11) as u8;
-        let other = self.random.between(12, 255) as u8;
-        self.random.pick(&[0, 12, 13, 255, 128 + known, 16 + known, other])
+        let known = self.random.between(1, LAST_KIND.into()) as u8;
+        let other = self.random.between(14, 255) as u8;
+        self.random.pick(&[0, 14, 15, 255, 128 + known, 16 + known, other])
     }
 
     /// A page and right with the wanted property, searched from a random place on.
@@ -402,6 +408,55 @@ impl History<'_> {
             let bits = self.pool.bits(self.random);
             self.put(mask(bits));
         }
+    }
+
+    /// A turn of some program in which it is denied something where it can be, and questions in
+    /// the interrupt after it. What may come between is to leave the last violation as it was.
+    fn denial(&mut self) {
+        if self.machine.depth() == 0 && self.random.chance(70) {
+            let count = self.machine.programs.len();
+            let any = self.random.below(count);
+            let program = self.random.pick(&[any, any, any, count - 1]);
+            self.put(entry_call());
+            self.put(switch(program as u16));
+            self.put(return_call());
+        }
+        let shut = self.search(|machine, field| field & machine.local_context() == 0);
+        if let Some((right, page)) = shut {
+            // Any byte of the page, so that the page in place of the address would show.
+            let size = self.machine.page_size() as usize;
+            let address = usize::from(page) * size + self.random.below(size);
+            self.put(access(right, address as u32));
+        }
+        if self.random.chance(20) {
+            self.ask();
+        }
+        if self.random.chance(40) {
+            self.one_call();
+        }
+        if !self.enter_privileged_mode() {
+            return;
+        }
+        self.ask();
+        if self.random.chance(50) {
+            match self.random.below(4) {
+                0 => self.some_stores(),
+                1 => {
+                    let program = self.a_program();
+                    self.put(switch(program));
+                }
+                _ => self.one_call(),
+            }
+            self.ask();
+        }
+        if self.random.chance(80) {
+            self.put(return_call());
+        }
+    }
+
+    fn ask(&mut self) {
+        let record = self.with_noise(question());
+        self.put(record);
     }
 
     fn some_stores(&mut self) {

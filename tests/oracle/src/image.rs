@@ -77,5 +77,7 @@ pub fn load(image: &[u8]) -> Result<Machine, u8> {
         saved: Vec::new(),
         programs,
         current: 0,
+        // An image does not hold one, so whatever was denied before is forgotten (RULES 1.16).
+        last_violation: None,
     })
 }

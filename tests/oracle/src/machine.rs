@@ -1,4 +1,4 @@
-//! The machine and its eleven calls (RULES, sections 1 to 3).
+//! The machine and its twelve calls (RULES, sections 1 to 3).
 //!
 //! The lists are as long as the counts say, so that there is nothing past a count or
 //! the depth here. No answer of a run depends on it.
@@ -41,6 +41,15 @@ pub struct Program {
     pub mode: Mode,
 }
 
+/// Who was denied what (RULES 1.16). The address is the one that the access named, all of it,
+/// since the page alone would not tell which byte was wanted.
+#[derive(Clone, Copy, PartialEq, Eq, Debug)]
+pub struct Violation {
+    pub program: usize,
+    pub right: u8,
+    pub address: u32,
+}
+
 #[derive(Clone, PartialEq, Eq, Debug)]
 pub struct Machine {
     pub exponent: u32,
@@ -55,6 +64,8 @@ pub struct Machine {
     /// The program count is its length.
     pub programs: Vec<Program>,
     pub current: usize,
+    /// None until the first violation after a load (RULES 1.16).
+    pub last_violation: Option<Violation>,
 }
 
 /// Done or allowed, or the number of the condition that was met first.
@@ -79,7 +90,7 @@ pub fn bit(domain: Domain) -> u16 {
 }
 
 impl Machine {
-    /// What a refused load gives: every number zero, every mode user, the flag clear.
+    /// What a refused load gives: every number zero, every mode user, the flag clear, no violation.
     pub fn all_zero() -> Machine {
         Machine {
             exponent: 0,
@@ -91,6 +102,7 @@ impl Machine {
             saved: Vec::new(),
             programs: Vec::new(),
             current: 0,
+            last_violation: None,
         }
     }
 
@@ -143,6 +155,14 @@ impl Machine {
             && (1..=MOST_PROGRAMS).contains(&self.programs.len())
             && self.current < self.programs.len()
             && !(self.pending && self.privileged())
+            && self.last_violation.is_none_or(|violation| self.could_meet(violation))
+    }
+
+    /// Whether a stored violation names a program, a right and a byte of this machine (RULES 1.11).
+    fn could_meet(&self, violation: Violation) -> bool {
+        violation.program < self.programs.len()
+            && (violation.right == READ || violation.right == WRITE)
+            && u64::from(violation.address) < self.memory()
     }
 
     fn refuse_unsound(&self) -> Answer {
@@ -179,6 +199,8 @@ impl Machine {
         self.refuse_pending()?;
         let page = Page((u64::from(address) / self.page_size()) as u16);
         if self.field(right, page) & self.local_context() == 0 {
+            // The only place that sets it: a later violation takes the place of an earlier one (RULES 3.3).
+            self.last_violation = Some(Violation { program: self.current, right, address });
             self.pending = true;
             return Err(9);
         }
@@ -288,5 +310,13 @@ impl Machine {
         self.refuse_in_user_mode()?;
         self.mode = mode;
         Ok(())
+    }
+
+    /// The question for the last violation: what it hands out, or the number that refuses it
+    /// (RULES 3.24, 3.25). It only looks, so that it can be asked again and again.
+    pub fn question(&self) -> Result<Option<Violation>, u8> {
+        self.refuse_unsound()?;
+        self.refuse_in_user_mode()?;
+        Ok(self.last_violation)
     }
 }

@@ -2,8 +2,8 @@
 //! bytes that the first wrote.
 
 use crate::image::load;
-use crate::machine::Machine;
-use crate::run::{split, step, RECORD};
+use crate::machine::{Machine, Violation};
+use crate::run::{split, step, Outcome, RECORD};
 use crate::writer::{write_image, Written};
 
 /// A buffer is never longer than this, whatever room a case names.
@@ -14,18 +14,42 @@ pub const FILLING: u8 = 0xEE;
 
 pub struct Round {
     pub load: u8,
-    /// One answer for each call; none after a refused load.
-    pub calls: Vec<u8>,
+    /// One for each call; none after a refused load.
+    pub calls: Vec<Outcome>,
     pub written: Written,
     /// All of the buffer after the write.
     pub buffer: Vec<u8>,
 }
 
+/// The line for what a question handed out.
+fn line(handed_out: Option<Violation>) -> String {
+    match handed_out {
+        Some(Violation { program, right, address }) => format!("denied {program} {right} {address}"),
+        None => String::from("none"),
+    }
+}
+
 impl Round {
+    pub fn numbers(&self) -> Vec<u8> {
+        self.calls.iter().map(|call| call.number()).collect()
+    }
+
+    /// The line of each question, in the order of the calls.
+    pub fn hand_outs(&self) -> Vec<String> {
+        let handed_out = self.calls.iter().filter_map(|&call| match call {
+            Outcome::Question(_, handed_out) => Some(handed_out),
+            Outcome::Number(_) => None,
+        });
+        handed_out.map(line).collect()
+    }
+
     fn text(&self) -> String {
         let mut text = format!("load {}\n", self.load);
-        for (before, answer) in self.calls.iter().enumerate() {
-            text += &format!("{} {}\n", before + 1, answer);
+        for (before, call) in self.calls.iter().enumerate() {
+            text += &format!("{} {}\n", before + 1, call.number());
+            if let Outcome::Question(_, handed_out) = *call {
+                text += &format!("{}\n", line(handed_out));
+            }
         }
         text += &format!("write {} {}\n", self.written.number, self.written.count);
         let bytes: Vec<String> = self.buffer.iter().map(|byte| format!("{byte:02X}")).collect();

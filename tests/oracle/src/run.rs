@@ -1,27 +1,72 @@
 //! The record decoder and the whole run: the answers, the text, the bench's answers.
 
 use crate::image::load;
-use crate::machine::{Answer, Domain, Machine, Page};
+use crate::machine::{Domain, Machine, Page, Violation};
 
 pub const LONGEST_INPUT: usize = 32_768;
 pub const RECORD: usize = 6;
+/// The kinds from 1 to this one are calls (RULES 6.5).
+pub const LAST_KIND: u8 = 12;
 
 #[derive(Clone, Copy, PartialEq, Eq, Debug)]
 pub enum Call {
-    Access { right: u8, address: u32 },
-    Grant { right: u8, page: Page, domain: Domain },
-    Revoke { right: u8, page: Page, domain: Domain },
-    Mask { mask: u16 },
+    Access {
+        right: u8,
+        address: u32,
+    },
+    Grant {
+        right: u8,
+        page: Page,
+        domain: Domain,
+    },
+    Revoke {
+        right: u8,
+        page: Page,
+        domain: Domain,
+    },
+    Mask {
+        mask: u16,
+    },
     Entry,
     Return,
-    Switch { program: u16 },
-    StoreField { right: u8, page: Page, bits: u16 },
-    StoreContext { context: u16 },
-    StoreMask { mask: u16 },
-    StoreMode { number: u16 },
+    Switch {
+        program: u16,
+    },
+    StoreField {
+        right: u8,
+        page: Page,
+        bits: u16,
+    },
+    StoreContext {
+        context: u16,
+    },
+    StoreMask {
+        mask: u16,
+    },
+    StoreMode {
+        number: u16,
+    },
+    /// The question for the last violation, which takes nothing from its record.
+    Question,
 }
 
-/// Reads six bytes: kind, right, A, B. A kind outside 1 to 11 is no call.
+/// What a record gives. All give a number; the question also hands out the last violation or
+/// none, and none where it is refused (RULES 3.25).
+#[derive(Clone, Copy, PartialEq, Eq, Debug)]
+pub enum Outcome {
+    Number(u8),
+    Question(u8, Option<Violation>),
+}
+
+impl Outcome {
+    pub fn number(self) -> u8 {
+        match self {
+            Outcome::Number(number) | Outcome::Question(number, _) => number,
+        }
+    }
+}
+
+/// Reads six bytes: kind, right, A, B. A kind outside 1 to 12 is no call.
 pub fn decode(record: &[u8]) -> Option<Call> {
     let right = record[1];
     let a = u16::from(record[2]) * 256 + u16::from(record[3]);
@@ -38,12 +83,13 @@ pub fn decode(record: &[u8]) -> Option<Call> {
         9 => Some(Call::StoreContext { context: b }),
         10 => Some(Call::StoreMask { mask: b }),
         11 => Some(Call::StoreMode { number: b }),
+        12 => Some(Call::Question),
         _ => None,
     }
 }
 
-fn obey(machine: &mut Machine, call: Call) -> Answer {
-    match call {
+fn obey(machine: &mut Machine, call: Call) -> Outcome {
+    let answer = match call {
         Call::Access { right, address } => machine.access(right, address),
         Call::Grant { right, page, domain } => machine.grant(right, page, domain),
         Call::Revoke { right, page, domain } => machine.revoke(right, page, domain),
@@ -55,17 +101,21 @@ fn obey(machine: &mut Machine, call: Call) -> Answer {
         Call::StoreContext { context } => machine.store_context(context),
         Call::StoreMask { mask } => machine.store_mask(mask),
         Call::StoreMode { number } => machine.store_mode(number),
-    }
+        Call::Question => {
+            return match machine.question() {
+                Ok(last_violation) => Outcome::Question(0, last_violation),
+                Err(number) => Outcome::Question(number, None),
+            }
+        }
+    };
+    Outcome::Number(answer.err().unwrap_or(0))
 }
 
-/// One record: its answer, with the machine changed as it says.
-pub fn step(machine: &mut Machine, record: &[u8]) -> u8 {
-    let Some(call) = decode(record) else {
-        return 18;
-    };
-    match obey(machine, call) {
-        Ok(()) => 0,
-        Err(number) => number,
+/// One record: what it gives, with the machine changed as it says.
+pub fn step(machine: &mut Machine, record: &[u8]) -> Outcome {
+    match decode(record) {
+        Some(call) => obey(machine, call),
+        None => Outcome::Number(18),
     }
 }
 
@@ -80,6 +130,7 @@ pub fn split(input: &[u8]) -> (&[u8], &[u8]) {
     rest.split_at(declared.min(rest.len()))
 }
 
+/// A run gives the number of each call and nothing more, of the question too (RULES 6.5).
 pub struct Run {
     pub load: u8,
     pub calls: Vec<u8>,
@@ -99,7 +150,7 @@ pub fn run(input: &[u8]) -> Option<Run> {
     };
     let whole = records.chunks_exact(RECORD);
     let cut = !whole.remainder().is_empty();
-    let calls = whole.map(|record| step(&mut machine, record)).collect();
+    let calls = whole.map(|record| step(&mut machine, record).number()).collect();
     Some(Run { load: 0, calls, cut })
 }
 

@@ -1,13 +1,14 @@
 //! The sample and the starred cases (RULES 5.12, 5.13, 6.11) with their numbers, the stored cases,
-//! and the writer with what its promises say of it (RULES 5.14 to 5.18).
+//! the writer with what its promises say of it (RULES 5.14 to 5.18), and the last violation with
+//! the question for it (RULES 1.11, 1.16, 3.3, 3.24, 3.25).
 
 use crate::cases::{self, sample};
-use crate::histories::legal_plan;
+use crate::histories::{legal, legal_plan};
 use crate::image::load;
-use crate::machine::{prevailing, Domain, Fields, Machine, Mode, Page, Program, READ, WRITE};
+use crate::machine::{prevailing, Domain, Fields, Machine, Mode, Page, Program, Violation, READ, WRITE};
 use crate::random::Random;
-use crate::rounds::take_apart;
-use crate::run::{answers, split, step, text, RECORD};
+use crate::rounds::{rounds, take_apart};
+use crate::run::{answers, split, step, text, Outcome, LAST_KIND, RECORD};
 use crate::stored::{self, RUN, WRITING};
 use crate::writer::{write_image, Written};
 use crate::writes::{self, many};
@@ -51,6 +52,7 @@ fn the_sample_loads_to_the_machine_it_describes() {
         (0x0008, 0xFFFF, Mode::User)
     );
     assert_eq!((machine.programs.len(), machine.current, machine.depth(), machine.pending), (2, 0, 0, false));
+    assert_eq!(machine.last_violation, None);
 }
 
 #[test]
@@ -104,7 +106,79 @@ fn an_unsound_machine_is_refused_before_anything_else() {
     assert_eq!(machine.store_context(0), Err(1));
     assert_eq!(machine.store_mask(0), Err(1));
     assert_eq!(machine.store_mode(2), Err(1));
+    assert_eq!(machine.question(), Err(1));
     assert_eq!(machine, before);
+}
+
+#[test]
+fn a_stored_violation_at_the_edges_of_what_is_sound() {
+    // Two programs and 768 bytes.
+    let with =
+        |program, right, address| Machine { last_violation: Some(Violation { program, right, address }), ..loaded() };
+    for (program, right, address) in [(0, READ, 0), (1, WRITE, 767), (0, WRITE, 512), (1, READ, 3)] {
+        let mut machine = with(program, right, address);
+        assert!(machine.sound());
+        assert_eq!(machine.question(), Err(7));
+        assert_eq!(machine.interrupt_entry(), Ok(()));
+        assert_eq!(machine.question(), Ok(Some(Violation { program, right, address })));
+    }
+    for (program, right, address) in [
+        (2, READ, 0),
+        (8, READ, 0),
+        (256, READ, 0),
+        (0, 2, 0),
+        (0, 255, 0),
+        (0, READ, 768),
+        (0, WRITE, 0x0001_0000),
+        (1, READ, u32::MAX),
+    ] {
+        let machine = with(program, right, address);
+        assert!(!machine.sound());
+        // 1 comes first, in user mode and in privileged mode.
+        for mode in [Mode::User, Mode::Privileged] {
+            let mut machine = Machine { mode, ..machine.clone() };
+            let before = machine.clone();
+            assert_eq!(machine.question(), Err(1));
+            assert_eq!(machine.access(READ, 512), Err(1));
+            assert_eq!(machine.interrupt_entry(), Err(1));
+            assert_eq!(machine, before);
+            write_refused(&machine, 1, &[0, 44]);
+        }
+    }
+    // The all-zero machine has none, and is not sound for other reasons.
+    assert_eq!(Machine::all_zero().last_violation, None);
+    assert_eq!(Machine::all_zero().question(), Err(1));
+}
+
+#[test]
+fn a_violation_sets_the_last_violation_and_no_other_answer_changes_it() {
+    let (mut violations, mut asked, mut refused) = (0, 0, 0);
+    for seed in 0..100 {
+        let input = legal(&mut Random::new(seed), 150);
+        let (image, records) = split(&input);
+        let mut machine = load(image).expect("the image is legal");
+        for record in records.chunks_exact(RECORD) {
+            let before = machine.clone();
+            let outcome = step(&mut machine, record);
+            assert!(machine.sound());
+            if outcome.number() == 9 {
+                violations += 1;
+                let address = u32::from_be_bytes([record[2], record[3], record[4], record[5]]);
+                let violation = Violation { program: before.current, right: record[1], address };
+                assert_eq!(machine, Machine { pending: true, last_violation: Some(violation), ..before });
+                continue;
+            }
+            assert_eq!(machine.last_violation, before.last_violation);
+            if record[0] == 12 {
+                assert_eq!(machine, before);
+                let due = if before.privileged() { (0, before.last_violation) } else { (7, None) };
+                assert_eq!(outcome, Outcome::Question(due.0, due.1));
+                asked += usize::from(due.1.is_some());
+                refused += usize::from(due.0 == 7 && before.last_violation.is_some());
+            }
+        }
+    }
+    assert!(violations >= 500 && asked >= 300 && refused >= 50, "{violations}, {asked}, {refused}");
 }
 
 #[test]
@@ -136,10 +210,10 @@ fn the_stored_cases_reach_every_answer_that_can_occur() {
         };
         load_reached.insert(*load);
         for (record, answer) in split(&case.input).1.chunks_exact(6).zip(calls) {
-            reached.insert((if record[0] <= 11 { record[0] } else { 0 }, *answer));
+            reached.insert((if record[0] <= LAST_KIND { record[0] } else { 0 }, *answer));
         }
     }
-    let can_occur: [(u8, &[u8]); 12] = [
+    let can_occur: [(u8, &[u8]); 13] = [
         (0, &[18]),
         (1, &[0, 2, 3, 8, 9]),
         (2, &[0, 2, 4, 5, 6, 8, 11, 12]),
@@ -152,6 +226,7 @@ fn the_stored_cases_reach_every_answer_that_can_occur() {
         (9, &[0, 7]),
         (10, &[0, 7]),
         (11, &[0, 7, 17]),
+        (12, &[0, 7]),
     ];
     let expected: BTreeSet<(u8, u8)> =
         can_occur.iter().flat_map(|(kind, list)| list.iter().map(|answer| (*kind, *answer))).collect();
@@ -264,7 +339,7 @@ fn a_legal_image_that_is_loaded_and_written_gives_its_bytes_again() {
 
 #[test]
 fn loading_what_was_written_gives_the_machine_again() {
-    let (mut changed, mut entry_old, mut privileged) = (0, 0, 0);
+    let (mut changed, mut entry_old, mut privileged, mut violations) = (0, 0, 0, 0);
     for number in 0..400 {
         let case = many::case(&mut Random::numbered(1, number));
         let (image, records) = split(take_apart(&case).1);
@@ -283,11 +358,24 @@ fn loading_what_was_written_gives_the_machine_again() {
         changed += usize::from(buffer[..answer.count] != *image);
         entry_old += usize::from(machine.programs[0] != live);
         privileged += usize::from(live.mode == Mode::Privileged);
+        violations += usize::from(machine.last_violation.is_some());
         machine.programs[0] = live;
+        // The one thing that an image does not bring back.
+        machine.last_violation = None;
         assert_eq!(load(&buffer[..answer.count]), Ok(machine), "case number {number}");
     }
     // The random cases would be of little use without changes, and with an entry that is up to date.
     assert!(changed >= 100 && entry_old >= 60 && privileged >= 10, "{changed}, {entry_old}, {privileged}");
+    assert!(violations >= 60, "{violations}");
+}
+
+#[test]
+fn the_last_violation_does_not_show_in_what_is_written() {
+    let violation = Violation { program: 1, right: WRITE, address: 767 };
+    let machine = Machine { last_violation: Some(violation), ..loaded() };
+    assert_eq!(written(&machine, 45), written(&loaded(), 45));
+    write_refused(&machine, 27, &[0, 43]);
+    write_refused(&Machine { pending: true, ..machine }, 26, &[0, 43, 44]);
 }
 
 #[test]
@@ -317,6 +405,59 @@ fn random_cases_of_the_writer_reach_all_its_numbers_in_a_short_file() {
     }
     assert_eq!(many::file(1, 0), Ok(vec![]));
     assert!(many::file(1, 3).is_ok());
+    assert_eq!(
+        many::rare([].into_iter()),
+        "writes-random: the writer answered 0 0 times, fewer than 20
+writes-random: the writer answered 1 0 times, fewer than 20
+writes-random: the writer answered 26 0 times, fewer than 20
+writes-random: the writer answered 27 0 times, fewer than 20
+writes-random: a question gave `denied` 0 times, fewer than 20
+writes-random: a question gave `none` 0 times, fewer than 20
+"
+    );
+}
+
+#[test]
+fn random_cases_of_the_writer_ask_after_violations_of_all_sorts() {
+    for seed in 1..=20 {
+        let (mut programs, mut rights, mut addresses) = (BTreeSet::new(), BTreeSet::new(), BTreeSet::new());
+        let mut none_with = [0, 0];
+        for number in 0..400 {
+            let [first, _] = rounds(&many::case(&mut Random::numbered(seed, number)));
+            for call in first.calls {
+                match call {
+                    Outcome::Question(_, Some(violation)) => {
+                        programs.insert(violation.program);
+                        rights.insert(violation.right);
+                        addresses.insert(violation.address);
+                    }
+                    Outcome::Question(number, None) => none_with[usize::from(number == 7)] += 1,
+                    Outcome::Number(_) => {}
+                }
+            }
+        }
+        assert_eq!(programs, BTreeSet::from_iter(0..8), "seed {seed}");
+        assert_eq!(rights, BTreeSet::from([READ, WRITE]), "seed {seed}");
+        assert!(addresses.len() >= 100 && addresses.iter().any(|&address| address > 0x7FFF), "seed {seed}");
+        assert!(none_with[0] >= 20 && none_with[1] >= 20, "seed {seed}: {none_with:?}");
+    }
+}
+
+#[test]
+fn no_case_has_a_record_of_kind_13() {
+    // It is unknown now, but a later request makes it a call, and the cases are to stay good.
+    let random = (0..400).map(|number| many::case(&mut Random::numbered(1, number)));
+    let writes = writes::all().into_iter().map(|case| case.bytes).chain(random);
+    let inputs = writes.map(|case| take_apart(&case).1.to_vec());
+    let runs = cases::all().into_iter().map(|case| case.input);
+    let random = (0..100).map(|seed| legal(&mut Random::new(seed), 150));
+    for input in inputs.chain(runs).chain(random) {
+        let (image, records) = split(&input);
+        // After a refused load no record is read.
+        if load(image).is_ok() {
+            assert!(records.chunks_exact(RECORD).all(|record| record[0] != 13));
+        }
+    }
 }
 
 /// A file of cases of writing alone.
@@ -340,6 +481,62 @@ fn the_text_of_two_rounds() {
     let not_at_rest = [&[0, 2, 0, 44], &SAMPLE[..], &[5, 0, 0, 0, 0, 0]].concat();
     let due = format!("case 1\nload 0\n1 0\nwrite 26 0\nEE EE\n{nothing}EE EE\n");
     assert_eq!(stored::text(&writings(&[&not_at_rest[..]])), due);
+}
+
+#[test]
+fn the_text_of_questions() {
+    // A question in user mode, an entry, a question, a return; a denied write of address 0x0105 by
+    // program 1 after the turn to it, and questions in the interrupt, after the switch to 0 too.
+    let calls = [
+        [12, 0, 0, 0, 0, 0],
+        [5, 0, 0, 0, 0, 0],
+        [12, 1, 2, 3, 4, 5],
+        [7, 0, 0, 0, 0, 1],
+        [6, 0, 0, 0, 0, 0],
+        [1, 1, 0, 0, 1, 5],
+        [12, 0, 0, 0, 0, 0],
+        [5, 0, 0, 0, 0, 0],
+        [12, 0, 0, 0, 0, 0],
+        [7, 0, 0, 0, 0, 0],
+        [12, 255, 255, 255, 255, 255],
+        [6, 0, 0, 0, 0, 0],
+    ]
+    .concat();
+    let input = [&[0, 44], &SAMPLE[..], &calls].concat();
+    let round = "load 0
+1 7
+none
+2 0
+3 0
+none
+4 0
+5 0
+6 9
+7 7
+none
+8 0
+9 0
+denied 1 1 261
+10 0
+11 0
+denied 1 1 261
+12 0
+";
+    let image = "01 00 00 12 00 04 02 00 00 16 00 0C 03 00 00 22 00 0A 03 08 02 00 \
+                 00 09 00 00 00 0A 00 02 00 0C 00 04 00 07 00 03 00 00 08 FF FF 00";
+    let good = [&[0, 44], &input[..]].concat();
+    let short = [&[0, 2], &input[..]].concat();
+    let due = format!(
+        "case 1\n{round}write 0 44\n{image}\n{round}write 0 44\n{image}\n\
+         case 2\n{round}write 27 0\nEE EE\nload 20\nwrite 1 0\nEE EE\n"
+    );
+    assert_eq!(stored::text(&writings(&[&good[..], &short])), due);
+
+    // A run has the numbers alone.
+    let numbers = "load 0\n1 7\n2 0\n3 0\n4 0\n5 0\n6 9\n7 7\n8 0\n9 0\n10 0\n11 0\n12 0\n";
+    assert_eq!(text(&input), numbers);
+    assert_eq!(stored::text(&stored::file([(RUN, &input[..])])), format!("case 1\n{numbers}"));
+    assert_eq!(answers(&input), [0, 7, 0, 0, 0, 0, 9, 7, 0, 0, 0, 0, 0]);
 }
 
 #[test]

@@ -111,3 +111,8 @@ pub fn store_mask(bits: u16) -> Record {
 pub fn store_mode(number: u16) -> Record {
     record(11, 0, 0, number)
 }
+
+/// The question for the last violation.
+pub fn question() -> Record {
+    record(12, 0, 0, 0)
+}

@@ -44,7 +44,8 @@ fn image_part<'a>(machine: &Machine, buffer: &'a mut [u8]) -> Result<&'a mut [u8
     buffer.get_mut(..length).ok_or(27)
 }
 
-/// Only for a sound machine and a part as long as its image (RULES 5.14).
+/// Only for a sound machine and a part as long as its image (RULES 5.14). The last violation
+/// has no place in an image, so it is not looked at.
 fn fill(machine: &Machine, image: &mut [u8]) {
     let (contents, bodies) = image.split_at_mut(CONTENTS);
     let (shape, bodies) = bodies.split_at_mut(SHAPE);

@@ -1,10 +1,12 @@
 //! The stored cases of writing, in a fixed order. Each says what it is for and, by hand from
-//! the rules, what is due in its two rounds: the answers, the writer's number and count, and
-//! bytes of the buffer, all of them or those that matter.
+//! the rules, what is due in its two rounds: the answers, the line of each question for the last
+//! violation, the writer's number and count, and bytes of the buffer, all of them or those that
+//! matter.
 
 mod inputs;
 mod live;
 pub mod many;
+mod questions;
 mod rest;
 mod shapes;
 mod switches;
@@ -21,6 +23,8 @@ pub type Bytes<'a> = (usize, &'a str);
 pub struct Due {
     pub load: u8,
     pub calls: Vec<u8>,
+    /// The line of each question, in the order of the calls.
+    pub hand_outs: Vec<String>,
     pub written: Written,
     pub bytes: Vec<(usize, Vec<u8>)>,
 }
@@ -36,7 +40,7 @@ pub struct Case {
 impl Due {
     fn new(load: u8, calls: Vec<u8>, number: u8, count: usize, bytes: &[Bytes]) -> Due {
         let bytes = bytes.iter().map(|&(at, text)| (at, from_hex(text))).collect();
-        Due { load, calls, written: Written { number, count }, bytes }
+        Due { load, calls, hand_outs: vec![], written: Written { number, count }, bytes }
     }
 
     /// The second round after a refused write: an empty image.
@@ -46,7 +50,8 @@ impl Due {
 
     fn check(&self, round: &Round, room: usize, what: &str) {
         assert_eq!(round.load, self.load, "{what}: load");
-        assert_eq!(round.calls, self.calls, "{what}: calls");
+        assert_eq!(round.numbers(), self.calls, "{what}: calls");
+        assert_eq!(round.hand_outs(), self.hand_outs, "{what}: what the questions handed out");
         assert_eq!(round.written, self.written, "{what}: write");
         assert_eq!(round.buffer.len(), room, "{what}: buffer");
         for (at, bytes) in &self.bytes {
@@ -81,10 +86,27 @@ impl Case {
         }
     }
 
+    fn due(&mut self) -> &mut [Due; 2] {
+        self.due.as_mut().expect("the case has something due")
+    }
+
     /// Says what is due in the second round where it is not what was due in the first.
-    fn then(&mut self, calls: &[u8], number: u8, count: usize, bytes: &[Bytes]) {
-        let due = self.due.as_mut().expect("the case has something due");
-        due[1] = Due::new(0, calls.to_vec(), number, count, bytes);
+    fn then(&mut self, calls: &[u8], number: u8, count: usize, bytes: &[Bytes]) -> &mut Case {
+        self.due()[1] = Due::new(0, calls.to_vec(), number, count, bytes);
+        self
+    }
+
+    /// Says what the questions hand out, in every round that has calls.
+    fn handing_out(&mut self, lines: &[&str]) -> &mut Case {
+        for due in self.due().iter_mut().filter(|due| due.load == 0) {
+            due.hand_outs = lines.iter().map(|line| line.to_string()).collect();
+        }
+        self
+    }
+
+    /// Says what the questions of the second round hand out where it is not the same.
+    fn then_handing_out(&mut self, lines: &[&str]) {
+        self.due()[1].hand_outs = lines.iter().map(|line| line.to_string()).collect();
     }
 }
 
@@ -116,10 +138,10 @@ impl Writes {
     }
 
     /// A run whose write is refused with 26 or 27.
-    fn refused(&mut self, purpose: &str, room: u16, plan: &Plan, steps: &[Step], number: u8) {
+    fn refused(&mut self, purpose: &str, room: u16, plan: &Plan, steps: &[Step], number: u8) -> &mut Case {
         let calls = steps.iter().map(|step| step.1).collect();
         let due = [Due::new(0, calls, number, 0, &[]), Due::of_nothing()];
-        self.add(&format!("{number}: {purpose}"), of_plan(room, plan, steps), due);
+        self.add(&format!("{number}: {purpose}"), of_plan(room, plan, steps), due)
     }
 
     /// An input whose image is refused with the number `load`, so that the write answers 1.
@@ -190,6 +212,7 @@ pub fn all() -> Vec<Case> {
     rest::add(&mut writes);
     shapes::add(&mut writes);
     inputs::add(&mut writes);
+    questions::add(&mut writes);
     for seed in 1..=8 {
         let bytes = many::case(&mut Random::new(seed));
         writes.list.push(Case { purpose: format!("a random case, seed {seed}"), bytes, due: None });

@@ -505,7 +505,8 @@ fn flag_set(cases: &mut Cases) {
         (store_mode(0), 7),
         (store_mode(1), 7),
         (store_mode(2), 17),
-        (record(12, 0, 0, 0), 18),
+        (question(), 7),
+        (record(14, 0, 0, 0), 18),
     ];
     // After each call the flag is seen to be still set.
     let watched: Vec<Step> = refused.into_iter().flat_map(|step| [step, (read(0), 8)]).collect();

@@ -13,29 +13,29 @@ pub fn add(cases: &mut Cases) {
 }
 
 /// The sample with program 0 stored in privileged mode.
-fn privileged_first() -> Plan {
+pub fn privileged_first() -> Plan {
     let mut plan = sample();
     plan.programs[0].2 = 1;
     plan
 }
 
 /// The sample with program 1 stored in privileged mode.
-fn privileged_second() -> Plan {
+pub fn privileged_second() -> Plan {
     let mut plan = sample();
     plan.programs[1].2 = 1;
     plan
 }
 
-fn times(count: usize, step: Step) -> Vec<Step> {
+pub fn times(count: usize, step: Step) -> Vec<Step> {
     vec![step; count]
 }
 
 /// The mask command tells the mode: 6 in privileged mode, 0 in user mode with the flag clear.
-fn in_privileged_mode() -> Step {
+pub fn in_privileged_mode() -> Step {
     (mask(0x0003), 6)
 }
 
-fn in_user_mode() -> Step {
+pub fn in_user_mode() -> Step {
     (mask(0x0003), 0)
 }
 
@@ -561,7 +561,8 @@ fn register_stores(cases: &mut Cases) {
 }
 
 fn unknown_kinds(cases: &mut Cases) {
-    for kind in [0, 12, 13, 129, 255] {
+    // 13 is left out, since a later request makes it a call. 129 and 140 are known but for their highest bit.
+    for kind in [0, 14, 15, 129, 140, 255] {
         cases.run(
             &format!("18: kind {kind} in user mode, in privileged mode and with the flag set; nothing changes"),
             &sample(),

@@ -64,14 +64,14 @@ fn records(writes: &mut Writes) {
         of_input(44, &input(&sample().image(), &[5])),
         [due(&[], SAMPLE_PROGRAMS), due(&[], SAMPLE_PROGRAMS)],
     );
-    let unknown = [0, 12, 13, 26, 255].map(|kind| (record(kind, 1, 0xFFFF, 0xFFFF), 18));
+    let unknown = [0, 14, 15, 26, 255].map(|kind| (record(kind, 1, 0xFFFF, 0xFFFF), 18));
     writes.sample("unknown kinds change nothing", &sample(), &unknown, SAMPLE_PAGES, SAMPLE_PROGRAMS);
     writes.sample(
         "unknown kinds between a mask command, an entry and a return",
         &sample(),
         &[
             (mask(0x0205), 0),
-            (record(12, 0, 0, 0), 18),
+            (record(14, 0, 0, 0), 18),
             (entry_call(), 0),
             (record(0, 0, 0, 1), 18),
             (return_call(), 0),
@@ -84,7 +84,7 @@ fn records(writes: &mut Writes) {
         "unknown kinds do not end an interrupt",
         44,
         &sample(),
-        &[(entry_call(), 0), (record(12, 0, 0, 0), 18)],
+        &[(entry_call(), 0), (record(14, 0, 0, 0), 18)],
         26,
     );
 }

@@ -3,14 +3,15 @@
 use crate::histories::{changes, legal_plan};
 use crate::inputs::spoilt;
 use crate::random::Random;
-use crate::rounds::{rounds, MOST_ROOM};
+use crate::rounds::{rounds, Round, MOST_ROOM};
 use crate::run::split;
 use crate::stored;
 use crate::write::*;
 
-/// From so many cases on, each of the writer's numbers must have come often.
+/// From so many cases on, each of the writer's numbers and both sorts of lines that a question
+/// prints must have come often.
 const ENOUGH_RUNS: u64 = 400;
-/// A number that came fewer times than this was not tried well.
+/// What came fewer times than this was not tried well.
 const LEAST: usize = 20;
 /// All that the writer can answer (RULES 5.15).
 pub const NUMBERS: [u8; 4] = [0, 1, 26, 27];
@@ -19,19 +20,34 @@ pub const NUMBERS: [u8; 4] = [0, 1, 26, 27];
 pub fn file(seed: u64, runs: u64) -> Result<Vec<u8>, String> {
     let cases: Vec<Vec<u8>> = (0..runs).map(|number| case(&mut Random::numbered(seed, number))).collect();
     if runs >= ENOUGH_RUNS {
-        let numbers: Vec<u8> = cases.iter().map(|case| rounds(case)[0].written.number).collect();
-        let times = |number: u8| numbers.iter().filter(|&&one| one == number).count();
-        let rare = NUMBERS.iter().filter(|&&number| times(number) < LEAST);
-        let wrong: String = rare
-            .map(|&number| {
-                format!("writes-random: the writer answered {number} {} times, fewer than {LEAST}\n", times(number))
-            })
-            .collect();
+        let wrong = rare(cases.iter().map(|case| {
+            let [first, _] = rounds(case);
+            first
+        }));
         if !wrong.is_empty() {
             return Err(wrong);
         }
     }
     Ok(stored::file(cases.iter().map(|case| (stored::WRITING, &case[..]))))
+}
+
+/// What came too rarely in these rounds, a line for each.
+pub fn rare(rounds: impl Iterator<Item = Round>) -> String {
+    let mut written = NUMBERS.map(|number| (number, 0));
+    let (mut denied, mut none) = (0, 0);
+    for round in rounds {
+        for (number, times) in &mut written {
+            *times += usize::from(round.written.number == *number);
+        }
+        for line in round.hand_outs() {
+            *(if line == "none" { &mut none } else { &mut denied }) += 1;
+        }
+    }
+    let answers = written.map(|(number, times)| (format!("the writer answered {number}"), times));
+    let hand_outs =
+        [("denied", denied), ("none", none)].map(|(line, times)| (format!("a question gave `{line}`"), times));
+    let rare = answers.into_iter().chain(hand_outs).filter(|(_, times)| *times < LEAST);
+    rare.map(|(what, times)| format!("writes-random: {what} {times} times, fewer than {LEAST}\n")).collect()
 }
 
 /// The room and the input of one case.

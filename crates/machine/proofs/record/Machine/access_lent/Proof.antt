@@ -1,4 +1,4 @@
--- `Machine::access_lent` meets its contract: it changes the flag alone, and its number is that of the field it read.
+-- `Machine::access_lent` meets its contract: it changes the flag and the last violation alone, and its number is that of the field it read.
 use mathlib.Core.Path.{ap}
 use Rattle.machine.specs.Machine.{withFields}
 use Rattle.machine.specs.Calls.{accessChecks, keeping, checksOf}
@@ -15,11 +15,12 @@ returns c =
     let placing : tie.After-place = (search) in
     let reading : tie.After-read-field = (search) in
     let numbering : tie.After-access-at = (search) in
+    let choosing : tie.After-or-where = (search) in
     let a = start .args in
     ap (keeping (a .self))
     (access-answered (withFields (a .fields .now) (a .self)) (a .right) (a .address)
     (rw (numbering .access-at .ensures, reading .read-field .ensures, placing .place .ensures, paging .page-of .ensures))
-    (rw (c .or-where .ensures, c .before .with-pending .ensures)))
+    (rw (choosing .or-where .ensures, choosing .before .with-pending .ensures)) (rw (c .or-denied .ensures)))
 
 pub access-lent-spec : {M : Type 1} → statement M
-access-lent-spec = tie.close (tie.spec (λ c κs. search needs) (λ c κs. search needs) (λ c κs. search needs) (λ c κs. search needs) (λ c κs. search needs) (λ c κs. search needs) returns)
+access-lent-spec = tie.close (tie.spec (λ c κs. search needs) (λ c κs. search needs) (λ c κs. search needs) (λ c κs. search needs) (λ c κs. search needs) (λ c κs. search needs) (λ c κs. search needs) returns)

@@ -31,7 +31,7 @@ returns c =
     (⊎-elim
     (λ w.
     done m Enter number (number ∙ rw (lt-ltb (own .depth) 8 (w .0 .taken)))
-    (with-stack m (w .9) (w .7 ∙ w .2 .ensures) (w .8 ∙ w .6 .ensures ∙ ap (withMode Privileged) (w .5 .ensures))))
+    (with-stack m (w .9) (w .7 ∙ w .2 .ensures) (w .8 ∙ w .6 .ensures ∙ ap (withMode Privileged) (w .5 .ensures))) refl)
     (λ w.
     kept m Enter (checksOf m Enter) number refl (λ z. let full : n ≡ 13 = number ∙ rw (le-ltb (own .depth) 8 (w .0 .left)) in omega (arith, full, z))
     (with-stack m (w .3) (w .1) (w .2)))

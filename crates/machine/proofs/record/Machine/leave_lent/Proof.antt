@@ -35,7 +35,7 @@ returns c =
     let last = w .3 .ensures ∙ ap (λ (k : ℕ). modeWhere (getD saved k false)) top in
     done m Return number (w .0 .taken)
     (with-stack m (w .11 ∙ top) (w .9 ∙ w .5 .ensures ∙ ap (λ (k : ℕ). set saved k false) top)
-    (w .10 ∙ w .8 .ensures ∙ ap (λ (mode : Mode). withMode mode (own .registers)) last)))
+    (w .10 ∙ w .8 .ensures ∙ ap (λ (mode : Mode). withMode mode (own .registers)) last)) refl)
     (λ w. kept m Return (checksOf m Return) number refl (w .0 .left) (with-stack m (w .3) (w .1) (w .2)))
     (c .if1 .came))
     refl

@@ -16,7 +16,7 @@ returns c =
     let replacing : tie.After-replace-mask = (search) in
     let a = start .args in
     let done = replacing .replace-mask .ensures in
-    registers-answered (a .self) (SetMask (a .mask)) (rw done) refl refl
+    registers-answered (a .self) (SetMask (a .mask)) (rw done) refl refl refl
     (rw (c .or-where .ensures, done) (mask-taken (a .self .registers) (a .mask)))
 
 pub set-mask-unchecked-spec : {M : Type 1} → statement M

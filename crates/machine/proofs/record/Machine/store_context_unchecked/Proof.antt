@@ -13,7 +13,7 @@ returns c =
     let start : tie.Start = (search) in
     let numbering : tie.After-register-store-number = (search) in
     let a = start .args in
-    registers-answered (a .self) (StoreContext (a .bits)) (numbering .register-store-number .ensures) refl refl
+    registers-answered (a .self) (StoreContext (a .bits)) (numbering .register-store-number .ensures) refl refl refl
     (rw (c .or-where .ensures, c .before .with-context .ensures))
 
 pub store-context-unchecked-spec : {M : Type 1} → statement M

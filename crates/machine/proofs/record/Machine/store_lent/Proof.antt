@@ -23,7 +23,7 @@ returns c =
     let answer =
     store-answered (withFields (a .fields .now) (a .self)) (StoreField (a .right) (a .page) (a .bits)) {n = numbering .field-number .result}
     (placing .place .result) (a .bits) (reading .read-field .ensures) (rw (numbering .field-number .ensures, asking .privileged .ensures))
-    refl (rw (← placing .place .ensures)) (choosing .chosen .ensures) (writing .write-field .ensures) in
+    refl (rw (← placing .place .ensures)) refl (choosing .chosen .ensures) (writing .write-field .ensures) in
     (ap (λ (r : Answered). r .number) answer, ap (λ (r : Answered). r .machine .fields) answer)
 
 pub store-lent-spec : {M : Type 1} → statement M

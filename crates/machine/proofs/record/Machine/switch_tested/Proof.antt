@@ -42,7 +42,7 @@ returns c =
     done m (Switch program) number (w .0 .taken)
     (with-programs m (w .13) (w .14 ∙ table) (w .11 ∙ w .6 .ensures ∙ ap (λ (p : Program). set saved 0 (isPrivileged (p .mode))) named)
     (w .12 ∙ w .10 .ensures ∙ ap (withContext (w .4 .result .context)) (w .9 .ensures)
-    ∙ ap (λ (p : Program). withContext (p .context) (withMask (p .mask) r)) named)))
+    ∙ ap (λ (p : Program). withContext (p .context) (withMask (p .mask) r)) named)) refl)
     (λ w. kept m (Switch program) checks number refl (w .0 .left) (with-programs m (w .3) (w .4) (w .1) (w .2)))
     (c .if1 .came))
     refl
