@@ -9,6 +9,7 @@ use lib.ListN.{length, getD}
 use Rattle.rules.specs.Refusals.{first, pick}
 use Rattle.machine.specs.Machine.{isSound, noProgram, zero}
 use Rattle.machine.specs.declared.record.Machine.{Machine}
+use Rattle.machine.specs.declared.record.LastViolation.the-variants.{Absent}
 use Rattle.machine.specs.Listed.{isIn}
 use Rattle.machine.proofs.Sound.{facts-sound}
 use Rattle.machine.proofs.Told.{first-within}
@@ -17,13 +18,14 @@ use Rattle.image.specs.Load.{fieldsOf, programsOf, programAt, fieldAt, p
 use Rattle.image.proofs.Entries.{length-entries, pad-at, pad-past}
 use Rattle.image.proofs.Passed.{Passed, passed}
 
--- RULES 5.9: what holds of a loaded machine, whatever the image said: sound, program 0 live, all past a count or the depth empty
+-- RULES 5.9: what holds of a loaded machine, whatever the image said: sound, program 0 live, no last violation, all past a count or the depth empty
 pub record Loaded (m : Machine) : Type 0 where
   pub sound : isSound m ≡ true
   pub runs-first : m .current ≡ 0
   pub live : m .registers ≡ liveOf (getD (m .table) 0 noProgram)
   pub flag-clear : m .registers .pending ≡ false
   pub no-depth : m .depth ≡ 0
+  pub no-violation : m .violations .last ≡ Absent
   pub no-field : (i : ℕ) → 2 * m .pages ≤ i → getD (m .fields) i 0 ≡ 0
   pub no-program : (i : ℕ) → m .programs ≤ i → getD (m .table) i noProgram ≡ noProgram
   pub no-mode : (i : ℕ) → getD (m .saved) i false ≡ false
@@ -47,11 +49,13 @@ module _ (s : List ℕ) (passed : Passed s) where
           memory-most = passed .memory-most;
           current-below = omega arith;
           calm = refl;
+          violation-fits = refl;
         });
         runs-first = refl;
         live = ap liveOf (sym (pad-at noProgram 8 programs 0 (omega arith)));
         flag-clear = refl;
         no-depth = refl;
+        no-violation = refl;
         no-field = λ i past. pad-past 0 256 (fieldsOf s) i (omega arith);
         no-program = λ i past. pad-past noProgram 8 programs i past;
         no-mode = λ i. pad-past false 8 [] i (omega arith);

@@ -10,14 +10,15 @@ use lib.ListN.{length, replicate, set, take}
 use Rattle.rules.specs.Domains.{domainBit, prevailing}
 use Rattle.rules.specs.declared.registers.Mode.the-variants.{User, Privileged}
 use Rattle.rules.specs.declared.registers.Registers.{Registers}
-use Rattle.machine.specs.Machine.{isSound}
+use Rattle.machine.specs.Machine.{isSound, withLast}
 use Rattle.machine.specs.Calls.{callOf, checksOf, effectOf, accessChecks, changeChecks, after}
 use Rattle.machine.specs.declared.record.Machine.{Machine}
 use Rattle.machine.specs.declared.record.Program.{Program}
 use Rattle.machine.specs.declared.record.Answered.{Answered}
+use Rattle.machine.specs.declared.record.Report.the-variants.{Nothing}
 use Rattle.machine.specs.declared.record.Call.{Call}
 use Rattle.machine.specs.declared.record.Call.the-variants.{Access, Grant, Revoke, SetMask, Return}
-use Rattle.machine.proofs.Written.{stored, live, whole}
+use Rattle.machine.proofs.Written.{stored, live, denied, whole}
 use Rattle.image.specs.Bytes.{byteAt, wordOf, wordAt, word, entries, bodies}
 use Rattle.image.specs.Description.{bytesOf, machineOf, pad}
 use Rattle.image.specs.Load.{describe, loadChecks, loadOf, lengthTests, kindTests, shapeEntryTests, shapeTests, bodyTests}
@@ -36,7 +37,11 @@ pub bytes-read :
     × (pad {A = ℕ} 2 9 (1 ∷ 2 ∷ 3 ∷ []) ≡ 1 ∷ 2 ∷ [])
 bytes-read = (refl, refl, refl, refl, refl, refl, refl, refl)
 
--- a machine at depth 0, with user in its eight stack places
+-- a number and a machine, and nothing to report
+abbrev gives : ℕ → Machine → Answered
+gives number machine = record { number = number; machine = machine; report = Nothing }
+
+-- a machine at depth 0, with user in its eight stack places, that holds no violation
 abbrev resting : ℕ → ℕ → List ℕ → Registers → ℕ → List Program → Machine
 resting pages exponent fields registers programs table = whole pages exponent fields registers 0 (replicate 8 false) programs 0 table
 
@@ -60,12 +65,12 @@ pub refused-written :
     ∷ set sampleBytes 9 0x17
     ∷ set sampleBytes 38 2
     ∷ [])
-    ≡ record { number = 20; machine = nothing }
-    ∷ record { number = 21; machine = nothing }
-    ∷ record { number = 22; machine = nothing }
-    ∷ record { number = 23; machine = nothing }
-    ∷ record { number = 24; machine = nothing }
-    ∷ record { number = 25; machine = nothing }
+    ≡ gives 20 nothing
+    ∷ gives 21 nothing
+    ∷ gives 22 nothing
+    ∷ gives 23 nothing
+    ∷ gives 24 nothing
+    ∷ gives 25 nothing
     ∷ []
 unfolding loadOf loadChecks lengthTests kindTests shapeEntryTests shapeTests bodyTests sampleBytes
 refused-written = refl
@@ -111,10 +116,7 @@ long-table =
 pub long-image :
     (length long-bytes ≡ 318)
     × (loadOf long-bytes
-    ≡ record {
-      number = 0;
-      machine = resting 64 10 (long-fields ++ replicate 128 0) (live 0x0102 0x0304 Privileged false) 8 long-table;
-    })
+    ≡ gives 0 (resting 64 10 (long-fields ++ replicate 128 0) (live 0x0102 0x0304 Privileged false) 8 long-table))
     × (bytesOf (record { pages = 64; exponent = 10; fields = long-fields; programs = long-table }) ≡ long-bytes)
 unfolding loadOf loadChecks lengthTests kindTests shapeEntryTests shapeTests bodyTests describe machineOf bytesOf
 long-image = (refl, refl, refl)
@@ -134,17 +136,11 @@ shortest = ends 0x00 0x04 0x00 0x1A 0x05 0x01 0x05 0x01 ++ (0x80 ∷ 0x01 ∷ 0x
 pub ends-load :
     (length longest ∷ length shortest ∷ [] ≡ 574 ∷ 31 ∷ [])
     × (loadOf longest
-    ≡ record {
-      number = 0;
-      machine = resting 128 9 (replicate 256 0x8080) (live 0x0101 0x0101 Privileged false) 8 (replicate 8 (stored 0x0101 0x0101 Privileged));
-    })
+    ≡ gives 0 (resting 128 9 (replicate 256 0x8080) (live 0x0101 0x0101 Privileged false) 8 (replicate 8 (stored 0x0101 0x0101 Privileged))))
     × (loadOf shortest
-    ≡ record {
-      number = 0;
-      machine =
-          resting 1 5 (0x8001 ∷ 0x4002 ∷ replicate 254 0) (live 0x2003 0x1004 User false) 1
-          (stored 0x2003 0x1004 User ∷ replicate 7 (stored 0 0 User));
-    })
+    ≡ gives 0
+    (resting 1 5 (0x8001 ∷ 0x4002 ∷ replicate 254 0) (live 0x2003 0x1004 User false) 1
+    (stored 0x2003 0x1004 User ∷ replicate 7 (stored 0 0 User))))
 unfolding loadOf loadChecks lengthTests kindTests shapeEntryTests shapeTests bodyTests describe machineOf
 ends-load = (refl, refl, refl)
 
@@ -208,18 +204,18 @@ twelve-asked = refl
 -- "0", "0", "9", "9", "3", "12", "11", "0, field 0x0001", "11", "0", "5", "7"
 abbrev twelve : List Answered
 twelve =
-    record { number = 0; machine = of-sample 9 3 false }
-    ∷ record { number = 0; machine = of-sample 9 3 false }
-    ∷ record { number = 9; machine = of-sample 9 3 true }
-    ∷ record { number = 9; machine = of-sample 9 3 true }
-    ∷ record { number = 3; machine = of-sample 9 3 false }
-    ∷ record { number = 12; machine = of-sample 9 3 false }
-    ∷ record { number = 11; machine = of-sample 9 3 false }
-    ∷ record { number = 0; machine = of-sample 0x0001 3 false }
-    ∷ record { number = 11; machine = of-sample 9 3 false }
-    ∷ record { number = 0; machine = of-sample 9 7 false }
-    ∷ record { number = 5; machine = of-sample 9 3 false }
-    ∷ record { number = 7; machine = of-sample 9 3 false }
+    gives 0 (of-sample 9 3 false)
+    ∷ gives 0 (of-sample 9 3 false)
+    ∷ gives 9 (withLast (denied 0 1 0) (of-sample 9 3 true))
+    ∷ gives 9 (withLast (denied 0 0 767) (of-sample 9 3 true))
+    ∷ gives 3 (of-sample 9 3 false)
+    ∷ gives 12 (of-sample 9 3 false)
+    ∷ gives 11 (of-sample 9 3 false)
+    ∷ gives 0 (of-sample 0x0001 3 false)
+    ∷ gives 11 (of-sample 9 3 false)
+    ∷ gives 0 (of-sample 9 7 false)
+    ∷ gives 5 (of-sample 9 3 false)
+    ∷ gives 7 (of-sample 9 3 false)
     ∷ []
 
 pub twelve-given : (map outcome starred ≡ twelve) × (map expected starred ≡ twelve)
@@ -229,7 +225,7 @@ twelve-given = (refl, refl)
 -- a case that says what is not so: what it must give is what it says, and what the definitions give is something else
 pub cases-judged :
     let wrong : Case = record { before = SetMask 0x0007 ∷ []; call = Return; number = 99; machine = nothing } in
-    outcome wrong ∷ expected wrong ∷ [] ≡ record { number = 7; machine = of-sample 9 7 false } ∷ record { number = 99; machine = nothing } ∷ []
+    outcome wrong ∷ expected wrong ∷ [] ≡ gives 7 (of-sample 9 7 false) ∷ gives 99 nothing ∷ []
 unfolding callOf checksOf effectOf after isSound loadOf loadChecks lengthTests kindTests shapeEntryTests shapeTests bodyTests describe machineOf sampleBytes
 cases-judged = refl
 

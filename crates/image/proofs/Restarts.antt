@@ -8,9 +8,12 @@ use native.Mathlib.Omega.{arith}
 use lib.ListN.{length, getD, take, drop, replicate}
 use lib.Seq.{take-at, getD-drop}
 use Rattle.rules.specs.declared.registers.Registers.{Registers}
-use Rattle.machine.specs.Machine.{isSound, noProgram}
+use Rattle.machine.specs.Machine.{isSound, noProgram, withLast}
+use Rattle.machine.specs.Calls.{silent}
 use Rattle.machine.specs.declared.record.Machine.{Machine}
 use Rattle.machine.specs.declared.record.Program.{Program}
+use Rattle.machine.specs.declared.record.LastViolation.{LastViolation}
+use Rattle.machine.specs.declared.record.LastViolation.the-variants.{Absent}
 use Rattle.machine.proofs.Sound.{sound-facts}
 use Rattle.machine.proofs.Written.{whole}
 use Rattle.image.specs.Bytes.{Bytes, wordAt}
@@ -121,13 +124,18 @@ started m can =
 
 -- RULES 5.17: loading what was written gives 0 and the machine that the image starts
 pub written-loads : (m : Machine) (buffer : List ℕ) → writtenOf m (length buffer) .number ≡ 0
-    → loadOf (take (writtenOf m (length buffer) .count) (bufferAfter m buffer)) ≡ record { number = 0; machine = restarted m }
+    → loadOf (take (writtenOf m (length buffer) .count) (bufferAfter m buffer)) ≡ silent 0 (restarted m)
 unfolding writtenOf bufferAfter
 written-loads m buffer accepted =
     let image = imageFor m in
     let can = ready m (length buffer) accepted .0 in
     rw (image-written m buffer accepted, take-at image (drop (length image) buffer) (length image) refl)
-    (shaped-loads (descriptionOf m) (shaped-machine m (can .sound)) ∙ ap (λ (n : Machine). record { number = 0; machine = n }) (started m can))
+    (shaped-loads (descriptionOf m) (shaped-machine m (can .sound)) ∙ ap (λ (n : Machine). silent 0 n) (started m can))
+
+-- RULES 5.14, 5.17: the last violation is no part of the image: whichever it is, the bytes are the same, and they start the same machine
+pub last-aside : (m : Machine) (last : LastViolation) → (imageFor (withLast last m) ≡ imageFor m) × (restarted (withLast last m) ≡ restarted m)
+unfolding descriptionOf restarted
+last-aside m last = (refl, refl)
 
 -- RULES 5.17: that machine by its places: what is counted is as it was, program 0's entry is the live registers, and all else is empty
 pub record Restarts (m r : Machine) : Type 0 where
@@ -137,6 +145,7 @@ pub record Restarts (m r : Machine) : Type 0 where
   pub no-field : (i : ℕ) → 2 * m .pages ≤ i → getD (r .fields) i 0 ≡ 0
   pub registers : r .registers ≡ m .registers
   pub no-depth : r .depth ≡ 0
+  pub no-violation : r .violations .last ≡ Absent
   pub no-mode : (i : ℕ) → getD (r .saved) i false ≡ false
   pub programs : r .programs ≡ m .programs
   pub runs-first : r .current ≡ 0
@@ -161,6 +170,7 @@ restarts m room accepted =
       no-field = λ i h. pad-past 0 256 (countedFields m) i (omega (arith, fields));
       registers = refl;
       no-depth = refl;
+      no-violation = refl;
       no-mode = λ i. pad-past false 8 [] i (omega arith);
       programs = refl;
       runs-first = refl;

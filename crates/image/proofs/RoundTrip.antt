@@ -7,6 +7,7 @@ use lib.ListN.{length, getD}
 use Rattle.rules.specs.declared.registers.Mode.{Mode}
 use Rattle.rules.specs.declared.registers.Mode.the-variants.{User, Privileged}
 use Rattle.machine.specs.Machine.{noProgram}
+use Rattle.machine.specs.Calls.{silent}
 use Rattle.machine.specs.declared.record.Program.{Program}
 use Rattle.image.specs.Bytes.{Bytes, word, bodies}
 use Rattle.image.specs.Description.{Description, Shaped, Legal, entry, shape, modeByte, programBytes, bytesOf, machineOf}
@@ -73,12 +74,12 @@ legal-bytes d legal =
     pointwise (join (join e₀ (join e₁ e₂)) (join s (join f q)))
 
 -- the bytes of a description whose counts are in range load to its machine
-pub shaped-loads : (d : Description) → Shaped d → loadOf (bytesOf d) ≡ record { number = 0; machine = machineOf d }
+pub shaped-loads : (d : Description) → Shaped d → loadOf (bytesOf d) ≡ silent 0 (machineOf d)
 unfolding loadOf
 shaped-loads d counts = rw (passes (bytesOf d) (bytes-pass d counts), describe-bytes d counts)
 
 -- RULES 5.11: the bytes of a legal description load to its machine
-pub legal-loads : (d : Description) → Legal d → loadOf (bytesOf d) ≡ record { number = 0; machine = machineOf d }
+pub legal-loads : (d : Description) → Legal d → loadOf (bytesOf d) ≡ silent 0 (machineOf d)
 legal-loads d legal = shaped-loads d (legal .counts)
 
 -- whatever loads is the image of a description, and of one only

@@ -3,14 +3,14 @@ use mathlib.Core.Path.{_≡_, refl}
 use mathlib.Core.List.{map}
 use lib.Count.{trailingZeros}
 use Rattle.machine.specs.Machine.{isSound}
-use Rattle.machine.specs.Calls.{callOf, checksOf, effectOf, accessChecks, changeChecks, after}
+use Rattle.machine.specs.Calls.{callOf, silent, checksOf, effectOf, accessChecks, changeChecks, after}
 use Rattle.rules.specs.Domains.{domainBit, prevailing}
 use Rattle.image.specs.Description.{bytesOf, machineOf}
 use Rattle.image.specs.Load.{describe, loadChecks, loadOf, lengthTests, kindTests, shapeEntryTests, shapeTests, bodyTests}
 use Rattle.image.specs.Sample.{sampleBytes, sampleDescription, sampleMachine}
 use Rattle.image.specs.Starred.{starred, outcome, expected}
 
-pub sample-loads : loadOf sampleBytes ≡ record { number = 0; machine = sampleMachine }
+pub sample-loads : loadOf sampleBytes ≡ silent 0 sampleMachine
 unfolding loadOf loadChecks lengthTests kindTests shapeEntryTests shapeTests bodyTests describe machineOf sampleBytes sampleMachine
 sample-loads = refl
 

@@ -9,20 +9,21 @@ use lib.ListN.{length, replicate, drop}
 use Rattle.rules.specs.Refusals.{pick}
 use Rattle.rules.specs.declared.registers.Mode.{Mode}
 use Rattle.rules.specs.declared.registers.Mode.the-variants.{User, Privileged}
-use Rattle.machine.specs.Machine.{isSound}
+use Rattle.machine.specs.Machine.{isSound, withLast}
 use Rattle.machine.specs.declared.record.Machine.{Machine}
 use Rattle.machine.specs.declared.record.Program.{Program}
-use Rattle.machine.proofs.Written.{stored, live, whole}
+use Rattle.machine.proofs.Written.{stored, live, denied, holding, whole}
 use Rattle.image.specs.Bytes.{bodies}
 use Rattle.image.specs.Description.{bytesOf, pad}
 use Rattle.image.specs.Write.{descriptionOf, imageFor, writeChecks, writtenBytes, writtenOf, bufferAfter, restarted}
 use Rattle.image.specs.declared.writer.Written.{Written}
 use Rattle.image.proofs.Pinned.{nothing, long-bytes}
 
--- two pages of 64 bytes, two programs; every place past a count is full, program 0's stored entry differs from the live registers
+-- two pages of 64 bytes, two programs; every place past a count is full, program 0's stored entry differs from the live registers, and there was a
+-- violation
 abbrev standing : (current depth : ℕ) → Mode → Bool → Machine
 standing current depth mode pending =
-    whole 2 6 (0x1234 ∷ 0x5678 ∷ 0x9ABC ∷ 0xDEF0 ∷ replicate 252 0x2222) (live 0x0102 0x0304 mode pending) depth (replicate 8 true) 2 current
+    holding (denied 1 1 127) 2 6 (0x1234 ∷ 0x5678 ∷ 0x9ABC ∷ 0xDEF0 ∷ replicate 252 0x2222) (live 0x0102 0x0304 mode pending) depth (replicate 8 true) 2 current
     (stored 0xAAAA 0xBBBB User ∷ stored 0x0506 0x0708 User ∷ replicate 6 (stored 0xCCCC 0xDDDD Privileged))
 
 abbrev node : Machine
@@ -83,6 +84,8 @@ pub write-order :
     ∷ (standing 0 0 Privileged true, 40)
     ∷ (standing 0 0 Privileged true, 39)
     ∷ (standing 1 1 Privileged true, 40)
+    ∷ (withLast (denied 1 1 128) (standing 0 0 User false), 40)
+    ∷ (withLast (denied 2 0 0) (standing 1 1 User true), 0)
     ∷ (standing 1 0 User false, 40)
     ∷ (standing 1 0 User false, 39)
     ∷ (standing 0 1 User false, 40)
@@ -100,7 +103,7 @@ pub write-order :
     ∷ (standing 0 0 User false, 39)
     ∷ (standing 0 0 User false, 0)
     ∷ [])
-    ≡ 1 ∷ 1 ∷ 1 ∷ 1 ∷ 1 ∷ 1 ∷ 1 ∷ 1 ∷ 26 ∷ 26 ∷ 26 ∷ 26 ∷ 26 ∷ 26 ∷ 26 ∷ 26 ∷ 26 ∷ 26 ∷ 26 ∷ 26 ∷ 0 ∷ 0 ∷ 27 ∷ 27 ∷ []
+    ≡ 1 ∷ 1 ∷ 1 ∷ 1 ∷ 1 ∷ 1 ∷ 1 ∷ 1 ∷ 1 ∷ 1 ∷ 26 ∷ 26 ∷ 26 ∷ 26 ∷ 26 ∷ 26 ∷ 26 ∷ 26 ∷ 26 ∷ 26 ∷ 26 ∷ 26 ∷ 0 ∷ 0 ∷ 27 ∷ 27 ∷ []
 unfolding writtenOf writeChecks descriptionOf bytesOf isSound
 write-order = refl
 

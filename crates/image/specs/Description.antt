@@ -10,6 +10,7 @@ use Rattle.rules.specs.declared.registers.Registers.{Registers}
 use Rattle.machine.specs.Machine.{noProgram}
 use Rattle.machine.specs.declared.record.Machine.{Machine}
 use Rattle.machine.specs.declared.record.Program.{Program}
+use Rattle.machine.specs.declared.record.LastViolation.the-variants.{Absent}
 use Rattle.image.specs.Bytes.{word, bodies}
 
 -- RULES 5.11: what is chosen for an image; the fields are READ and WRITE of each page in turn
@@ -90,4 +91,5 @@ machineOf d =
       programs = length (d .programs);
       current = 0;
       table = pad 8 noProgram (d .programs);
+      violations = record { last = Absent };
     }

@@ -6,7 +6,7 @@ use lib.Dec.{leb, eqb}
 use lib.ListN.{length}
 use Rattle.rules.specs.Refusals.{Check, _⇒_, first, pick}
 use Rattle.machine.specs.Machine.{zero}
-use Rattle.machine.specs.Calls.{modeOf}
+use Rattle.machine.specs.Calls.{modeOf, silent}
 use Rattle.machine.specs.declared.record.Program.{Program}
 use Rattle.machine.specs.declared.record.Answered.{Answered}
 use Rattle.image.specs.Bytes.{byteAt, wordAt, entries}
@@ -153,4 +153,4 @@ loadChecks s =
 unfoldable pub loadOf : List ℕ → Answered
 loadOf s =
     let number = first (loadChecks s) in
-    record { number = number; machine = pick (eqb number 0) (machineOf (describe s)) zero }
+    silent number (pick (eqb number 0) (machineOf (describe s)) zero)

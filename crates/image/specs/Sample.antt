@@ -8,6 +8,7 @@ use Rattle.rules.specs.declared.registers.Registers.{Registers}
 use Rattle.machine.specs.Machine.{noProgram}
 use Rattle.machine.specs.declared.record.Machine.{Machine}
 use Rattle.machine.specs.declared.record.Program.{Program}
+use Rattle.machine.specs.declared.record.LastViolation.the-variants.{Absent}
 use Rattle.image.specs.Description.{Description}
 
 -- RULES 5.12: the 44 bytes, with a line for each row there
@@ -52,6 +53,7 @@ node fields registers =
       programs = 2;
       current = 0;
       table = samplePrograms ++ replicate 6 noProgram;
+      violations = record { last = Absent };
     }
 
 -- RULES 5.12: program 0's registers, with a mask and a flag

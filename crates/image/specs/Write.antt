@@ -10,6 +10,7 @@ use Rattle.rules.specs.declared.registers.Registers.{Registers}
 use Rattle.machine.specs.Machine.{isSound, noProgram}
 use Rattle.machine.specs.declared.record.Machine.{Machine}
 use Rattle.machine.specs.declared.record.Program.{Program}
+use Rattle.machine.specs.declared.record.LastViolation.the-variants.{Absent}
 use Rattle.image.specs.Description.{Description, bytesOf, pad}
 use Rattle.image.specs.declared.writer.Written.{Written}
 
@@ -78,4 +79,5 @@ restarted m =
       programs = m .programs;
       current = 0;
       table = pad 8 noProgram (countedPrograms m);
+      violations = record { last = Absent };
     }

@@ -8,45 +8,20 @@ pub const RECORD: usize = 6;
 /// The kinds from 1 to this one are calls (RULES 6.5).
 pub const LAST_KIND: u8 = 12;
 
+/// The question for the last violation takes nothing from its record.
 #[derive(Clone, Copy, PartialEq, Eq, Debug)]
 pub enum Call {
-    Access {
-        right: u8,
-        address: u32,
-    },
-    Grant {
-        right: u8,
-        page: Page,
-        domain: Domain,
-    },
-    Revoke {
-        right: u8,
-        page: Page,
-        domain: Domain,
-    },
-    Mask {
-        mask: u16,
-    },
+    Access { right: u8, address: u32 },
+    Grant { right: u8, page: Page, domain: Domain },
+    Revoke { right: u8, page: Page, domain: Domain },
+    Mask { mask: u16 },
     Entry,
     Return,
-    Switch {
-        program: u16,
-    },
-    StoreField {
-        right: u8,
-        page: Page,
-        bits: u16,
-    },
-    StoreContext {
-        context: u16,
-    },
-    StoreMask {
-        mask: u16,
-    },
-    StoreMode {
-        number: u16,
-    },
-    /// The question for the last violation, which takes nothing from its record.
+    Switch { program: u16 },
+    StoreField { right: u8, page: Page, bits: u16 },
+    StoreContext { context: u16 },
+    StoreMask { mask: u16 },
+    StoreMode { number: u16 },
     Question,
 }
 

@@ -139,6 +139,7 @@ fn a_stored_violation_at_the_edges_of_what_is_sound() {
             let mut machine = Machine { mode, ..machine.clone() };
             let before = machine.clone();
             assert_eq!(machine.question(), Err(1));
+            assert_eq!(step(&mut machine, &[12, 0, 0, 0, 0, 0]), Outcome::Question(1, None));
             assert_eq!(machine.access(READ, 512), Err(1));
             assert_eq!(machine.interrupt_entry(), Err(1));
             assert_eq!(machine, before);

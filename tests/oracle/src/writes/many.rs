@@ -39,9 +39,10 @@ pub fn rare(rounds: impl Iterator<Item = Round>) -> String {
         for (number, times) in &mut written {
             *times += usize::from(round.written.number == *number);
         }
-        for line in round.hand_outs() {
-            *(if line == "none" { &mut none } else { &mut denied }) += 1;
-        }
+        let lines = round.hand_outs();
+        let of_none = lines.iter().filter(|&line| line == "none").count();
+        none += of_none;
+        denied += lines.len() - of_none;
     }
     let answers = written.map(|(number, times)| (format!("the writer answered {number}"), times));
     let hand_outs =

@@ -336,6 +336,59 @@ fn programs(writes: &mut Writes) {
         .concat(),
         &["denied 0 0 520", "denied 0 0 520", "denied 0 1 6"],
     );
+    unchanged(
+        writes,
+        "program 1 was denied: program 0's calls do not make it their own",
+        &[
+            turn(1),
+            vec![(write(300), 9)],
+            turn(0),
+            asked_after_each(&[(grant(READ, 0, 3), 0), (revoke(WRITE, 1, 9), 0), (mask(0x0003), 0), (read(0), 0)]),
+            in_interrupt(&question_after_each(&[
+                (store_field(READ, 0, 0x0009), 0),
+                (store_context(0x0007), 0),
+                (store_mask(0x0003), 0),
+                (store_mode(1), 0),
+            ])),
+        ]
+        .concat(),
+        &["denied 1 1 300"; 8],
+    );
+    // Domain 3, the highest of READ, is program 1's and not program 0's.
+    let mut two = small(&[(0x0008, 0x0000)], 0x0001, 0xFFFF);
+    two.programs.push((0x0008, 0xFFFF, 0));
+    writes
+        .written(
+            "question, program 0 was denied: program 1's calls do not make it their own",
+            36,
+            &two,
+            &[
+                vec![(read(3), 9), (entry_call(), 0)],
+                question_after_each(&[
+                    (switch(1), 0),
+                    (store_field(WRITE, 0, 0x0010), 0),
+                    (store_context(0x0018), 0),
+                    (store_mask(0x00FF), 0),
+                    (store_mode(1), 0),
+                ]),
+                vec![(return_call(), 0)],
+                asked_after_each(&[
+                    (grant(READ, 0, 9), 0),
+                    (revoke(READ, 0, 9), 0),
+                    (mask(0x000F), 0),
+                    (read(3), 0),
+                    (grant(READ, 0, 3), 12),
+                ]),
+                in_interrupt(&[(switch(0), 0), (question(), 0)]),
+            ]
+            .concat(),
+            36,
+            &[
+                (0, "01 00 00 12 00 04  02 00 00 16 00 04  03 00 00 1A 00 0A  01 05 02 00"),
+                (22, "00 08 00 10  00 01 FF FF 00  00 18 00 0F 00"),
+            ],
+        )
+        .handing_out(&["denied 0 0 3"; 11]);
     // Each is asked for in its own interrupt and, after the switch, in that of the next turn.
     let denied = [
         (7, write(7)),
@@ -572,8 +625,9 @@ fn kept_by_commands(writes: &mut Writes) {
         .then_handing_out(&["none", "none", "denied 0 0 10"]);
 }
 
-/// Every refusal that user mode with the flag clear can meet. Page 2 has domain 2 as its highest,
-/// which program 0 masks out, and domain 0 is the highest of page 0.
+/// What is refused in user mode at depth 0 with the flag clear: each number for each call that
+/// has it, but the question's own 7. Page 2 has domain 2 as its highest, which program 0 masks
+/// out, and domain 0 is the highest of page 0.
 fn user_refusals() -> Vec<Step> {
     vec![
         (access(2, 700), 2),
@@ -677,7 +731,7 @@ fn refused_with_the_flag_set(writes: &mut Writes) {
     );
 }
 
-/// Every refusal that privileged mode at depth 1 can meet.
+/// What is refused in privileged mode at depth 1, each number at least once.
 fn privileged_refusals() -> Vec<Step> {
     vec![
         (access(2, 700), 2),

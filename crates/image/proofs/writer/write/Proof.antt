@@ -37,6 +37,12 @@ cast-write-image-2 c =
     let m = start .args .machine in
     record { fits = omega (arith, sound-facts m (ready m (length (start .args .buf .now)) (accepted then) .0 .sound) .programs-most) }
 
+-- its fields have their 256 places
+fields-lent : tie.Need-slice-aggregate-write-image
+fields-lent c =
+    let start : tie.Start = (search) in
+    search (start .good .0, needs)
+
 write-image-requires : tie.Need-write-image-requires
 write-image-requires c κs =
     let then : tie.Then1 = (search) in
@@ -68,5 +74,5 @@ returns-2 c =
 pub write-spec : {M : Type 1} → statement M
 write-spec =
     tie.close
-    (tie.spec (λ c κs. search needs) (λ c κs. search needs) (λ c κs. search needs) cast-write-image cast-write-image-2 (λ c. search needs)
+    (tie.spec (λ c κs. search needs) (λ c κs. search needs) (λ c κs. search needs) cast-write-image cast-write-image-2 fields-lent
     write-image-requires (λ c. search needs) returns returns-2)
