@@ -6,11 +6,11 @@ use Prim.Native.Nat.{ℕ}
 use lib.ListN.{replicate}
 use Rattle.rules.specs.declared.registers.Mode.{Mode}
 use Rattle.rules.specs.declared.registers.Mode.the-variants.{User, Privileged}
-use Rattle.machine.specs.Machine.{isSound}
+use Rattle.machine.specs.Machine.{isSound, withLast}
 use Rattle.machine.specs.Calls.{callOf, checksOf, accessChecks, effectOf, entered, after}
 use Rattle.machine.specs.declared.record.Machine.{Machine}
 use Rattle.machine.specs.declared.record.Call.the-variants.{SetMask, Enter}
-use Rattle.machine.proofs.Written.{stored, live, whole}
+use Rattle.machine.proofs.Written.{stored, live, denied, whole}
 use Rattle.image.specs.Description.{machineOf, bytesOf}
 use Rattle.image.specs.Load.{loadOf, loadChecks, lengthTests, kindTests, shapeEntryTests, shapeTests, bodyTests, describe}
 use Rattle.image.specs.Sample.{sampleBytes}
@@ -63,7 +63,7 @@ unfolding heldOf machineAfter callsOf callOfKind stepBy sampleBytes loadOf loadC
 machines-held = (refl, refl, refl)
 
 -- the second round starts with the mask that the first left, so that its access is a violation; where nothing was written, nothing loads
-pub machines-again : (againOf sampleBytes calls 44 ≡ node 1 1 true) × (againOf sampleBytes calls 43 ≡ nothing)
+pub machines-again : (againOf sampleBytes calls 44 ≡ withLast (denied 0 0 256) (node 1 1 true)) × (againOf sampleBytes calls 43 ≡ nothing)
 unfolding againOf heldOf machineAfter callsOf callOfKind stepBy sampleBytes loadOf loadChecks lengthTests kindTests shapeEntryTests shapeTests bodyTests describe machineOf callOf checksOf accessChecks effectOf after isSound writtenBytes writeChecks descriptionOf bytesOf
 machines-again = (refl, refl)
 

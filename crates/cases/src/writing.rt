@@ -1,5 +1,6 @@
 // A case of writing: two rounds of a load, calls and a write, the second on the image that the first one wrote. Its bytes are the room of the
-// lent buffer (2 bytes, high byte first) and an input as `pagerun` takes it.
+// lent buffer (2 bytes, high byte first) and an input as `pagerun` takes it. What the question for the last violation hands out, which a run does
+// not show, is printed here.
 use image::bytes::byte_at;
 use image::bytes::word_at;
 use image::load;
@@ -8,6 +9,7 @@ use libc::STDOUT_FILENO;
 use machine::Answered;
 use machine::Call;
 use machine::Machine;
+use machine::Report;
 use run::Decoded;
 use run::call_of_kind;
 ghost use mathlib.Core.Path.{_≡_};
@@ -38,6 +40,7 @@ fn call_on(machine: Machine, decoded: Decoded) -> Answered
         return Answered {
             number: 18,
             machine,
+            report: Report::Nothing,
         };
     };
     match call {
@@ -74,6 +77,9 @@ fn call_on(machine: Machine, decoded: Decoded) -> Answered
         Call::StoreMode(mode) => {
             return machine.store_mode(mode);
         }
+        Call::AskViolation => {
+            return machine.ask_violation();
+        }
     }
 }
 
@@ -88,19 +94,48 @@ fn print_two(first: u64, second: u64) -> u64
     first
 }
 
-// Makes the calls one after another, each on the machine that the one before it left, and prints the number and the answer of each.
+// Prints what was handed out on a line: program, right and address, or that it was none. Hands it back.
+fn print_report(report: Report) -> Report
+    ensures { λ r. ⌜ r ≡ report ⌝ }
+{
+    let Report::Denied(violation) = report else {
+        io::write_all(STDOUT_FILENO, b"none\n");
+        return report;
+    };
+    io::write_all(STDOUT_FILENO, b"denied ");
+    io::print_decimal(STDOUT_FILENO, violation.program as u64);
+    io::write_all(STDOUT_FILENO, b" ");
+    print_two(violation.right as u64, violation.address as u64);
+    report
+}
+
+// Prints the number and the answer of a record, and after one of kind 12 what it handed out. Gives the record's number back.
+fn print_call(number: u64, kind: u8, answer: u8, report: Report) -> u64
+    ensures { λ r. ⌜ r ≡ number ⌝ }
+{
+    print_two(number, answer as u64);
+    if kind == 12 {
+        print_report(report);
+    }
+    number
+}
+
+// Makes the calls one after another, each on the machine that the one before it left, and prints what each answers.
 fn make_calls(start: Machine, calls: &[u8]) -> Machine
     ensures { λ r. ⌜ r ≡ machineAfter start (callsOf (now (calls .entry))) ⌝ }
 {
     let mut answered = Answered {
         number: 0,
         machine: start,
+        report: Report::Nothing,
     };
     let mut at: usize = 0;
     while 6 <= calls.len() - at {
+        let kind = byte_at(calls, at);
         answered = call_on(answered.machine, record_of(&calls[at..]));
         at += 6;
-        print_two((at / 6) as u64, answered.number as u64);
+        let report = answered.report;
+        print_call((at / 6) as u64, kind, answered.number, report);
     }
     answered.machine
 }

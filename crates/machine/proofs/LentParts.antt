@@ -12,18 +12,19 @@ use Rattle.machine.specs.declared.record.Machine.{Machine}
 use Rattle.machine.specs.declared.record.Page.{Page}
 use Rattle.machine.specs.declared.record.Domain.{Domain}
 use Rattle.machine.specs.declared.record.Report.the-variants.{Nothing}
+use Rattle.machine.specs.declared.record.Report.{Report}
 use Rattle.machine.specs.declared.record.Answered.{Answered}
 use Rattle.machine.specs.declared.record.Call.{Call}
 use Rattle.machine.specs.declared.record.Call.the-variants.{Access, StoreField}
 use Rattle.machine.proofs.Answers.{avoids, after-cases, after-both, own-not-nine, unreported, change-avoids, change-effect, change-reports}
 
--- the same machine with another part, of which a call knows nothing: not its conditions, nor its effect, nor what it reports, nor its violation
+-- what a call may leave of a machine, with a part put in, and what it reports
+abbrev ends : (Machine → Machine) → Machine → Call → Machine × Machine × Report
+ends put m call = (put (effectOf m call), put (violated m call), reportOf m call)
+
+-- the same machine with another part, of which neither the conditions of a call nor its ends know
 abbrev Aside : (Machine → Machine) → Machine → Call → Type 0
-Aside put m call =
-    (checksOf (put m) call ≡ checksOf m call)
-    × (effectOf (put m) call ≡ put (effectOf m call))
-    × (reportOf (put m) call ≡ reportOf m call)
-    × (violated (put m) call ≡ put (violated m call))
+Aside put m call = (checksOf (put m) call ≡ checksOf m call) × (ends (λ same. same) (put m) call ≡ ends put m call)
 
 aside : (put : Machine → Machine) (m : Machine) (call : Call) → Aside put m call
     → uncheckedOf (put m) call
@@ -31,9 +32,12 @@ aside : (put : Machine → Machine) (m : Machine) (call : Call) → Aside put m 
 unfolding uncheckedOf
 aside put m call unseen =
     let n = ownNumberOf m call in
-    rw (unseen .0, unseen .2)
+    let done = ap (λ (end : Machine × Machine × Report). end .0) (unseen .1) in
+    let denied = ap (λ (end : Machine × Machine × Report). end .1) (unseen .1) in
+    let reports = ap (λ (end : Machine × Machine × Report). end .2) (unseen .1) in
+    rw (unseen .0, reports)
     (ap (λ (end : Machine). record { number = n; machine = end; report = pick (eqb n 0) (reportOf m call) Nothing })
-    (after-both (λ own other. other ≡ put own) n call (unseen .1) (unseen .3) refl))
+    (after-both (λ own other. other ≡ put own) n call done denied refl))
 
 -- a call that changes the fields alone: it is put together from its number and the fields after it
 abbrev FieldsAlone : Machine → Call → Type 0

@@ -10,7 +10,7 @@ use Rattle.image.specs.Load.{loadOf, loadChecks, lengthTests, kindTests, shapeE
 use Rattle.image.specs.Sample.{sampleBytes}
 use Rattle.machine.specs.Machine.{isSound}
 use Rattle.machine.specs.Calls.{asPage, asDomain, callOf, checksOf, accessChecks, changeChecks, effectOf, entered, returned, switched, after}
-use Rattle.machine.specs.declared.record.Call.the-variants.{Access, Grant, Revoke, SetMask, Enter, Return, Switch, StoreField, StoreContext, StoreMask, StoreMode}
+use Rattle.machine.specs.declared.record.Call.the-variants.{Access, Grant, Revoke, SetMask, Enter, Return, Switch, StoreField, StoreContext, StoreMask, StoreMode, AskViolation}
 use Rattle.run.specs.Records.{callOfKind, callsOf, stepBy}
 use Rattle.run.specs.Run.{answersFrom, answersOf, callAnswers, sent}
 use Rattle.run.specs.declared.records.Decoded.the-variants.{Known, Unknown}
@@ -23,7 +23,7 @@ record-of kind rest = kind ∷ 1 ∷ 2 ∷ 3 ∷ 4 ∷ 5 ∷ rest
 pub kinds-read :
     callsOf
     (record-of 0 (record-of 1 (record-of 2 (record-of 3 (record-of 4 (record-of 5 (record-of 6 (record-of 7 (record-of 8
-    (record-of 9 (record-of 10 (record-of 11 (record-of 12 (1 ∷ 1 ∷ 2 ∷ 3 ∷ 4 ∷ []))))))))))))))
+    (record-of 9 (record-of 10 (record-of 11 (record-of 12 (record-of 13 (1 ∷ 1 ∷ 2 ∷ 3 ∷ 4 ∷ [])))))))))))))))
     ≡ Unknown
     ∷ Known (Access 1 0x02030405)
     ∷ Known (Grant 1 (asPage 0x0203) (asDomain 0x0405))
@@ -36,6 +36,7 @@ pub kinds-read :
     ∷ Known (StoreContext 0x0405)
     ∷ Known (StoreMask 0x0405)
     ∷ Known (StoreMode 0x0405)
+    ∷ Known AskViolation
     ∷ Unknown
     ∷ []
 unfolding callsOf callOfKind
@@ -69,7 +70,7 @@ remainder-answered = refl
 -- one byte more and of one byte less than the image has, and inputs of 1 byte and of none.
 pub ends-answered :
     map answersOf
-    ((0x00 ∷ 0x2C ∷ (sampleBytes ++ (0x0C ∷ 0x00 ∷ 0x00 ∷ 0x00 ∷ 0x00 ∷ 0x00 ∷ 0x01 ∷ 0x00 ∷ 0x00 ∷ 0x00 ∷ 0x00 ∷ 0x10 ∷ [])))
+    ((0x00 ∷ 0x2C ∷ (sampleBytes ++ (0x0E ∷ 0x00 ∷ 0x00 ∷ 0x00 ∷ 0x00 ∷ 0x00 ∷ 0x01 ∷ 0x00 ∷ 0x00 ∷ 0x00 ∷ 0x00 ∷ 0x10 ∷ [])))
     ∷ (0x00 ∷ 0x2D ∷ sampleBytes)
     ∷ (0x00 ∷ 0x2B ∷ (sampleBytes ++ (0x05 ∷ 0x00 ∷ 0x00 ∷ 0x00 ∷ 0x00 ∷ [])))
     ∷ (0x00 ∷ [])

@@ -13,21 +13,22 @@ use Rattle.image.specs.Description.{machineOf}
 use Rattle.image.specs.Load.{loadOf, loadChecks, lengthTests, kindTests, shapeEntryTests, shapeTests, bodyTests, describe}
 use Rattle.image.specs.Sample.{sampleBytes}
 use Rattle.image.proofs.Pinned.{long-bytes}
-use Rattle.machine.specs.Machine.{isSound}
+use Rattle.machine.specs.Machine.{isSound, withLast}
 use Rattle.machine.specs.Calls.{callOf, uncheckedOf, checksOf, accessChecks, changeChecks, effectOf, entered, returned, switched, after}
 use Rattle.machine.specs.declared.record.Machine.{Machine}
 use Rattle.machine.specs.declared.record.Answered.{Answered}
-use Rattle.machine.specs.declared.record.Call.the-variants.{Access, Grant, Revoke, SetMask, Enter, Return, Switch, StoreField, StoreContext, StoreMask, StoreMode}
-use Rattle.machine.proofs.Written.{stored, live, whole}
+use Rattle.machine.specs.declared.record.Report.the-variants.{Nothing}
+use Rattle.machine.specs.declared.record.Call.the-variants.{Access, Grant, Revoke, SetMask, Enter, Return, Switch, StoreField, StoreContext, StoreMask, StoreMode, AskViolation}
+use Rattle.machine.proofs.Written.{stored, live, denied, whole}
 use Rattle.run.specs.Records.{callOfKind, callsOf, stepBy, stepOf, uncheckedStepOf}
 use Rattle.run.specs.Run.{answersFrom, answersOf, callAnswers, callBytes, imageOf, isLong, sent}
 use Rattle.run.specs.declared.records.Decoded.the-variants.{Known, Unknown}
 
--- a right above 1 is read as it stands, every part that a call does not use is passed over, and no kind past 11 is known
+-- a right above 1 is read as it stands, every part that a call does not use is passed over, and no kind past 12 is known
 pub parts-read :
     (map (λ (right : ℕ). callOfKind 1 right 0xFFFF 0xFFFE) (0 ∷ 1 ∷ 2 ∷ 255 ∷ [])
     ≡ Known (Access 0 0xFFFFFFFE) ∷ Known (Access 1 0xFFFFFFFE) ∷ Known (Access 2 0xFFFFFFFE) ∷ Known (Access 255 0xFFFFFFFE) ∷ [])
-    × (map (λ (kind : ℕ). callOfKind kind 254 0xFFFF 0xFFFE) (2 ∷ 3 ∷ 4 ∷ 5 ∷ 6 ∷ 7 ∷ 8 ∷ 9 ∷ 10 ∷ 11 ∷ [])
+    × (map (λ (kind : ℕ). callOfKind kind 254 0xFFFF 0xFFFE) (2 ∷ 3 ∷ 4 ∷ 5 ∷ 6 ∷ 7 ∷ 8 ∷ 9 ∷ 10 ∷ 11 ∷ 12 ∷ [])
     ≡ Known (Grant 254 (record { 0 = 0xFFFF }) (record { 0 = 0xFFFE }))
     ∷ Known (Revoke 254 (record { 0 = 0xFFFF }) (record { 0 = 0xFFFE }))
     ∷ Known (SetMask 0xFFFE)
@@ -38,8 +39,9 @@ pub parts-read :
     ∷ Known (StoreContext 0xFFFE)
     ∷ Known (StoreMask 0xFFFE)
     ∷ Known (StoreMode 0xFFFE)
+    ∷ Known AskViolation
     ∷ [])
-    × (map (λ (kind : ℕ). callOfKind kind 1 2 3) (0 ∷ 12 ∷ 13 ∷ 16 ∷ 17 ∷ 32 ∷ 65 ∷ 127 ∷ 128 ∷ 129 ∷ 133 ∷ 255 ∷ []) ≡ replicate 12 Unknown)
+    × (map (λ (kind : ℕ). callOfKind kind 1 2 3) (0 ∷ 13 ∷ 14 ∷ 16 ∷ 17 ∷ 32 ∷ 65 ∷ 127 ∷ 128 ∷ 129 ∷ 133 ∷ 255 ∷ []) ≡ replicate 12 Unknown)
 unfolding callOfKind
 parts-read = (refl, refl, refl)
 
@@ -62,7 +64,7 @@ abbrev small : ℕ → ℕ → Mode → Bool → List Bool → Machine
 small depth mask mode pending saved = whole 1 5 (1 ∷ 0 ∷ []) (live 1 mask mode pending) depth saved 1 0 (stored 1 1 User ∷ [])
 
 abbrev answered : ℕ → Machine → Answered
-answered number machine = record { number = number; machine = machine }
+answered number machine = record { number = number; machine = machine; report = Nothing }
 
 -- steps: an unknown record is answered 18 and leaves the machine alone, sound or not; a call is made, with the check for 1 or without it
 pub steps-made :
@@ -71,7 +73,7 @@ pub steps-made :
     (map (stepOf m) (Unknown ∷ Known (SetMask 6) ∷ Known (Access 1 0) ∷ Known Enter ∷ Known Return ∷ [])
     ≡ answered 18 m
     ∷ answered 0 (small 0 6 User false (false ∷ []))
-    ∷ answered 9 (small 0 1 User true (false ∷ []))
+    ∷ answered 9 (withLast (denied 0 1 0) (small 0 1 User true (false ∷ [])))
     ∷ answered 0 (small 1 1 Privileged false (false ∷ []))
     ∷ answered 7 m
     ∷ [])

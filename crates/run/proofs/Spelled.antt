@@ -10,8 +10,9 @@ use Rattle.image.specs.Bytes.{wordAt}
 use Rattle.image.specs.Load.{loadOf}
 use Rattle.machine.specs.Calls.{callOf, uncheckedOf}
 use Rattle.machine.specs.declared.record.Machine.{Machine}
+use Rattle.machine.specs.declared.record.Report.the-variants.{Nothing}
 use Rattle.machine.specs.declared.record.Call.{Call}
-use Rattle.machine.specs.declared.record.Call.the-variants.{Access, Grant, Revoke, SetMask, Enter, Return, Switch, StoreField, StoreContext, StoreMask, StoreMode}
+use Rattle.machine.specs.declared.record.Call.the-variants.{Access, Grant, Revoke, SetMask, Enter, Return, Switch, StoreField, StoreContext, StoreMask, StoreMode, AskViolation}
 use Rattle.run.specs.Records.{callOfKind, callsOf, stepBy, uncheckedStepOf}
 use Rattle.run.specs.Run.{answersFrom, callAnswers, sent}
 use Rattle.run.specs.declared.records.Decoded.{Decoded}
@@ -19,7 +20,7 @@ use Rattle.run.specs.declared.records.Decoded.the-variants.{Known, Unkno
 
 -- the kinds for any parts, and a kind past the last
 pub kinds-spelled : (right a b more : ℕ)
-    → (map (λ kind. callOfKind kind right a b) (0 ∷ 1 ∷ 2 ∷ 3 ∷ 4 ∷ 5 ∷ 6 ∷ 7 ∷ 8 ∷ 9 ∷ 10 ∷ 11 ∷ [])
+    → (map (λ kind. callOfKind kind right a b) (0 ∷ 1 ∷ 2 ∷ 3 ∷ 4 ∷ 5 ∷ 6 ∷ 7 ∷ 8 ∷ 9 ∷ 10 ∷ 11 ∷ 12 ∷ [])
     ≡ Unknown
     ∷ Known (Access right (65536 * a + b))
     ∷ Known (Grant right (record { 0 = a }) (record { 0 = b }))
@@ -32,8 +33,9 @@ pub kinds-spelled : (right a b more : ℕ)
     ∷ Known (StoreContext b)
     ∷ Known (StoreMask b)
     ∷ Known (StoreMode b)
+    ∷ Known AskViolation
     ∷ [])
-    × (callOfKind (suc (suc (suc (suc (suc (suc (suc (suc (suc (suc (suc (suc more)))))))))))) right a b ≡ Unknown)
+    × (callOfKind (suc (suc (suc (suc (suc (suc (suc (suc (suc (suc (suc (suc (suc more))))))))))))) right a b ≡ Unknown)
 unfolding callOfKind
 kinds-spelled right a b more = (refl, refl)
 
@@ -47,6 +49,6 @@ pub run-spelled : (input : List ℕ) (room : ℕ) (m : Machine) (call : Call) (r
     × (answersFrom m (Unknown ∷ rest) ≡ 18 ∷ answersFrom m rest)
     × (answersFrom m [] ≡ [])
     × (uncheckedStepOf m (Known call) ≡ uncheckedOf m call)
-    × (uncheckedStepOf m Unknown ≡ record { number = 18; machine = m })
+    × (uncheckedStepOf m Unknown ≡ record { number = 18; machine = m; report = Nothing })
 unfolding sent callAnswers answersFrom stepBy
 run-spelled input room m call rest = (refl, refl, refl, refl, refl, refl)

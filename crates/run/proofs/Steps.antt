@@ -36,8 +36,8 @@ made fields saved m call answer decodes names = rw (decodes, names) answer
 pub above : {n k : ℕ} → n ≤ k → (k ≡ n → ⊥) → n + 1 ≤ k
 above least other = omega arith
 
--- a kind past the table's last is none of the eleven
-pub unknown-kind : (kind right a b : ℕ) → ((kind ≡ 0 → ⊥) → 12 ≤ kind) → Unknown ≡ callOfKind kind right a b
+-- a kind past the table's last is none of the twelve
+pub unknown-kind : (kind right a b : ℕ) → ((kind ≡ 0 → ⊥) → 13 ≤ kind) → Unknown ≡ callOfKind kind right a b
 unfolding callOfKind
 unknown-kind kind right a b past = split (eqb kind 0) refl
   where
@@ -108,7 +108,7 @@ sound-step m Unknown s = refl
 
 -- what a step gives back and the lent parts after it, put together, are the step on the whole machine
 pub whole : (own : Machine) {fields : List ℕ} {saved : List Bool} {r s : Answered} → r ≡ keeping own s → fields ≡ s .machine .fields
-    → saved ≡ s .machine .saved → _≡_ {A = Answered} (record { number = r .number; machine = withLent fields saved (r .machine) }) s
+    → saved ≡ s .machine .saved → _≡_ {A = Answered} (record { number = r .number; machine = withLent fields saved (r .machine); report = r .report }) s
 whole own e f g = rw (e, f, g)
 
 -- a turn of the loop over the calls: the answer of the record at a place, stored, and the answers of the calls past it, stored behind it,

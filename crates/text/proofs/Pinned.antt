@@ -66,7 +66,7 @@ remainders = refl
 -- whole texts: a sample run with an unknown record and an entry, with remainders of 1 to 5 bytes and without calls; refused loads; long inputs
 pub texts :
     let sample : List ℕ → List ℕ = λ calls. 0x00 ∷ 0x2C ∷ (sampleBytes ++ calls) in
-    let two : List ℕ → List ℕ = λ rest. 0x0C ∷ 0x00 ∷ 0x00 ∷ 0x00 ∷ 0x00 ∷ 0x00 ∷ 0x06 ∷ 0x00 ∷ 0x00 ∷ 0x00 ∷ 0x00 ∷ 0x00 ∷ rest in
+    let two : List ℕ → List ℕ = λ rest. 0x0E ∷ 0x00 ∷ 0x00 ∷ 0x00 ∷ 0x00 ∷ 0x00 ∷ 0x06 ∷ 0x00 ∷ 0x00 ∷ 0x00 ∷ 0x00 ∷ 0x00 ∷ rest in
     (map textOf
     (sample []
     ∷ sample (5 ∷ [])

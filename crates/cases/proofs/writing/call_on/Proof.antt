@@ -1,6 +1,6 @@
 -- `cases::writing::call_on` meets its contract: each arm is the call that the record was decoded to.
 use borrow.Author.Needs.{needs}
-use Rattle.machine.specs.declared.record.Call.the-variants.{Access, Grant, Revoke, SetMask, Enter, Return, Switch, StoreField, StoreContext, StoreMask, StoreMode}
+use Rattle.machine.specs.declared.record.Call.the-variants.{Access, Grant, Revoke, SetMask, Enter, Return, Switch, StoreField, StoreContext, StoreMask, StoreMode, AskViolation}
 use Rattle.run.specs.Records.{stepBy}
 use Rattle.cases.proofs.Rounds.{asked}
 use Rattle.cases.proofs.writing.call_on.Statement.{statement}
@@ -36,4 +36,6 @@ call-on-spec =
     (λ c. search needs) (λ c κs. search needs)
     (λ c. let decoding : tie.After-decoded = (search) in asked _ (StoreMask _) (c .store-mask .ensures) (decoding .decoded .given .1) (c .before .before .call8 .given .1))
     (λ c. search needs) (λ c κs. search needs)
-    (λ c. let decoding : tie.After-decoded = (search) in asked _ (StoreMode _) (c .store-mode .ensures) (decoding .decoded .given .1) (c .before .before .call9 .given .1)))
+    (λ c. let decoding : tie.After-decoded = (search) in asked _ (StoreMode _) (c .store-mode .ensures) (decoding .decoded .given .1) (c .before .before .call9 .given .1))
+    (λ c. search needs) (λ c κs. search needs)
+    (λ c. let decoding : tie.After-decoded = (search) in asked _ AskViolation (c .ask-violation .ensures) (decoding .decoded .given .1) (c .before .enum-told4 .given .1)))

@@ -62,7 +62,7 @@ loop-again c =
       omega arith,
       length-set (l .answers) (l .i) (stepping .step .result .number) ∙ l .inv .2,
       simp length-set (omega arith),
-      turn (start .args .input .now) (l .answers) m (l .at) (l .i) (omega arith) (rw (← decoding .decode .ensures) stepped) ∙ l .inv .4,
+      turn (start .args .input .now) (l .answers) m (l .at) (l .i) (omega arith) (rw (decoding .decode .ensures) at stepped) ∙ l .inv .4,
       search needs,
       search needs,
       ap (λ (r : Answered). isSound (r .machine)) stepped ∙ step-sound m _ (l .inv .7),

@@ -2,7 +2,7 @@
 use mathlib.Core.Path.{refl, sym}
 use mathlib.Core.Bool.{true, false}
 use Rattle.machine.specs.Calls.{checksOf, accessChecks, changeChecks, effectOf, entered, returned, switched}
-use Rattle.machine.specs.declared.record.Call.the-variants.{Access, Grant, Revoke, SetMask, Enter, Return, Switch, StoreField, StoreContext, StoreMask, StoreMode}
+use Rattle.machine.specs.declared.record.Call.the-variants.{Access, Grant, Revoke, SetMask, Enter, Return, Switch, StoreField, StoreContext, StoreMask, StoreMode, AskViolation}
 use Rattle.machine.proofs.LentParts.{on-neither, on-fields, on-fields-alone, on-stack, access-keeps, change-alone, store-alone}
 use Rattle.run.specs.Records.{stepBy}
 use Rattle.run.proofs.Steps.{made}
@@ -103,6 +103,13 @@ returns-12 c =
     let naming : tie.After-call9 = (search) in
     made _ _ _ (StoreMode _) (on-neither _ _ _ (StoreMode _) (refl, refl) refl (c .store-mode-unchecked .ensures)) (decoding .decoded .given .1) (naming .call9 .given .1)
 
+returns-13 : tie.Need-returns-13
+unfolding checksOf effectOf
+returns-13 c =
+    let decoding : tie.After-decoded = (search) in
+    let naming : tie.After-enum-told4 = (search) in
+    made _ _ _ AskViolation (on-neither _ _ _ AskViolation (refl, refl) refl (c .ask-violation-unchecked .ensures)) (decoding .decoded .given .1) (naming .enum-told4 .given .1)
+
 pub step-spec : {M : Type 1} → statement M
 step-spec =
     tie.close
@@ -118,4 +125,5 @@ step-spec =
     (λ c. search needs) (search needs) (λ c. search needs) returns-9
     (λ c. search needs) (search needs) returns-10
     (λ c. search needs) (search needs) returns-11
-    (λ c. search needs) (search needs) returns-12)
+    (λ c. search needs) (search needs) returns-12
+    (λ c. search needs) (search needs) returns-13)
