@@ -5,11 +5,11 @@ use mathlib.Core.List.{[], _∷_, map}
 use Prim.Native.Nat.{ℕ}
 use lib.ListN.{replicate}
 use Rattle.rules.specs.declared.registers.Mode.the-variants.{User}
-use Rattle.machine.specs.Machine.{isSound}
+use Rattle.machine.specs.Machine.{isSound, withLast}
 use Rattle.machine.specs.Calls.{callOf, checksOf, accessChecks, effectOf, entered, returned, switched, after}
 use Rattle.machine.specs.declared.record.Machine.{Machine}
 use Rattle.machine.specs.declared.record.Call.the-variants.{Access, Grant, Revoke, SetMask}
-use Rattle.machine.proofs.Written.{stored, live, whole}
+use Rattle.machine.proofs.Written.{stored, live, denied, whole}
 use Rattle.kernel.specs.Kernel.{callFor, begunOf, servedOf}
 use Rattle.kernel.specs.declared.Request.the-variants.{Read, Write, GrantRight, RevokeRight, ReplaceMask}
 
@@ -45,7 +45,7 @@ turns-begun = (refl, refl, refl)
 
 -- an access that is allowed, one that is a violation, and one while it is pending
 pub requests-served :
-    (servedOf (node 0 false) (Read 0 ∷ Write 0 ∷ Read 0 ∷ []) ≡ record { refused = 2; machine = node 0 true })
+    (servedOf (node 0 false) (Read 0 ∷ Write 0 ∷ Read 0 ∷ []) ≡ record { refused = 2; machine = withLast (denied 0 1 0) (node 0 true) })
     × (servedOf (node 0 false) [] ≡ record { refused = 0; machine = node 0 false })
 unfolding servedOf callOf checksOf accessChecks effectOf after isSound
 requests-served = (refl, refl)

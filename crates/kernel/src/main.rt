@@ -6,6 +6,7 @@ use machine::Answered;
 use machine::Domain;
 use machine::Machine;
 use machine::Page;
+use machine::Report;
 ghost use mathlib.Core.Bool.{true, false};
 ghost use mathlib.Core.Path.{_≡_};
 ghost use Prim.Native.Nat.{_<_};
@@ -111,6 +112,7 @@ fn serve_all(start: Machine, requests: [Request; 3]) -> Served
     let mut answered = Answered {
         number: 0,
         machine: start,
+        report: Report::Nothing,
     };
     let mut refused: u8 = 0;
     let mut i: usize = 0;
@@ -127,6 +129,26 @@ fn serve_all(start: Machine, requests: [Request; 3]) -> Served
     }
 }
 
+// Tells support who was denied what, within the interrupt that a violation brings: prints the last violation on a line, where the machine hands
+// one out, and gives the answer back.
+fn tell_support(machine: Machine) -> Answered
+    ensures { λ r. ⌜ r ≡ callOf machine Call.AskViolation ⌝ }
+{
+    let asked = machine.ask_violation();
+    let report = asked.report;
+    let Report::Denied(violation) = report else {
+        return asked;
+    };
+    io::write_all(STDOUT_FILENO, b"denied: program ");
+    io::print_decimal(STDOUT_FILENO, violation.program as u64);
+    io::write_all(STDOUT_FILENO, b", right ");
+    io::print_decimal(STDOUT_FILENO, violation.right as u64);
+    io::write_all(STDOUT_FILENO, b", address ");
+    io::print_decimal(STDOUT_FILENO, violation.address as u64);
+    io::write_all(STDOUT_FILENO, b"\n");
+    asked
+}
+
 // Prints a number on a line of its own, and hands it back.
 fn print(number: u8) -> u8
     ensures { λ r. ⌜ r ≡ number ⌝ }
@@ -136,8 +158,9 @@ fn print(number: u8) -> u8
     number
 }
 
-// The sample node: a load, three requests of program 0 of which a violation and the one after it are refused, an interrupt in which its registers are stored, the turn of program 1, and three of
-// its requests, of which the last two are refused: it does not hold the prevailing domain, and may not write page 0.
+// The sample node: a load, three requests of program 0 of which a violation and the one after it are refused, an interrupt in which support is told
+// of it and the program's registers are stored, the turn of program 1, and three of its requests, of which the last two are refused: it does not hold
+// the prevailing domain, and may not write page 0.
 fn main() {
     let image = [
         1u8,
@@ -197,7 +220,8 @@ fn main() {
     );
     print(first.refused);
     let interrupted = first.machine.enter();
-    let stored = store_current(interrupted.machine);
+    let asked = tell_support(interrupted.machine);
+    let stored = store_current(asked.machine);
     print(stored.number);
     let resumed = stored.machine.leave();
     let begun = begin_turn(resumed.machine, 1);
