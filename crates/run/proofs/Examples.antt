@@ -19,7 +19,7 @@ use Rattle.run.specs.declared.records.Decoded.the-variants.{Known, Unkno
 abbrev record-of : ℕ → List ℕ → List ℕ
 record-of kind rest = kind ∷ 1 ∷ 2 ∷ 3 ∷ 4 ∷ 5 ∷ rest
 
--- RULES 6.5, 6.6, 6.9: the eleven kinds, the two next to them, and a remainder that is no record
+-- RULES 6.5, 6.6, 6.9: the twelve kinds, the two next to them, and a remainder that is no record
 pub kinds-read :
     callsOf
     (record-of 0 (record-of 1 (record-of 2 (record-of 3 (record-of 4 (record-of 5 (record-of 6 (record-of 7 (record-of 8
