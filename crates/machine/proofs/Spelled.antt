@@ -171,9 +171,9 @@ module _ (m : Machine) where
       λ k. record {
         number = k;
         machine = pick (eqb k 0) (effectOf m call)
-        (pick (eqb k 9)
-        (holding (deniedBy m call) (m .pages) (m .exponent) (m .fields)
-        (live (m .registers .context) (m .registers .mask) (m .registers .mode) true) (m .depth) (m .saved) (m .programs) (m .current) (m .table)) m);
+            (pick (eqb k 9)
+            (holding (deniedBy m call) (m .pages) (m .exponent) (m .fields)
+            (live (m .registers .context) (m .registers .mask) (m .registers .mode) true) (m .depth) (m .saved) (m .programs) (m .current) (m .table)) m);
         report = pick (eqb k 0) (reportOf m call) Nothing;
       } in
       (uncheckedOf m call ≡ spelled n) × (callOf m call ≡ spelled (pick (not (isSound m)) 1 n))

@@ -155,7 +155,6 @@ effectOf m (StoreField right page bits) = withField m right (page .0) bits
 effectOf m (StoreContext bits) = withRegisters (withContext bits (m .registers)) m
 effectOf m (StoreMask bits) = withRegisters (withMask bits (m .registers)) m
 effectOf m (StoreMode mode) = withRegisters (withMode (modeOf mode) (m .registers)) m
-
 -- RULES 3.25: the question changes nothing, so that it can be asked again
 effectOf m AskViolation = m
 

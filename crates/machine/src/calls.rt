@@ -136,7 +136,8 @@ impl Machine {
         let field = read_field(fields, at);
         let number = self.access_at(right, address, field);
         let after = registers.or_where(number == 9, registers.with_pending(true));
-        let violations = self.violations.or_denied(number == 9, self.current, right, address);
+        let violations = self.violations
+            .or_denied(number == 9, self.current, right, address);
         self.registers = after;
         self.violations = violations;
         Answered {
