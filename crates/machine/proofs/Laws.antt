@@ -63,7 +63,8 @@ sound-number m call s = rw s (told m call .numbers .given s)
 
 -- RULES 2.5: a refusal changes nothing, but that 9 sets the flag and the last violation
 pub refusal-unchanged : (m : Machine) (call : Call) → (callOf m call .number ≡ 0 → ⊥)
-    → callOf m call .machine ≡ pick (eqb (callOf m call .number) 9) (violated m call) m
+    → callOf m call .machine
+    ≡ pick (eqb (callOf m call .number) 9) (withLast (deniedBy m call) (withRegisters (withPending true (m .registers)) m)) m
 unfolding callOf after
 refusal-unchanged m call refused = rw (ne-eqb (numberOf m call) 0 refused)
 
@@ -79,17 +80,13 @@ violation-in-user-mode m call nine = split (inPrivilegedMode m) refl
         (first-avoids 9 ((not (isSound m) ⇒ 1) ∷ checksOf m call) (told m call .numbers .no-nine e)) nine)
     split false e = refl
 
--- RULES 3.2, 3.3: a violation is answered to an access of a right that is one, to an address in memory. It sets the flag, and the current
--- program, that right and the whole address are the last violation; nothing else changes
+-- RULES 3.2, 9.1: a violation is answered to an access alone, of a right that is one, to an address in memory
 pub record Violated (m : Machine) (call : Call) : Type 0 where
   pub right : ℕ
   pub address : ℕ
   pub accessed : call ≡ Access right address
   pub right-known : right ≤ 1
   pub inside : address < m .pages * 2 ^ m .exponent
-  pub left :
-      callOf m call .machine
-      ≡ withLast (Was (record { program = m .current; right = right; address = address })) (withRegisters (withPending true (m .registers)) m)
 
 reaches-nine : (b₁ b₂ b₃ : Bool) (rest : List Check) → first ((b₁ ⇒ 1) ∷ (b₂ ⇒ 2) ∷ (b₃ ⇒ 3) ∷ rest) ≡ 9 → (b₂ ≡ false) × (b₃ ≡ false)
 reaches-nine true b₂ b₃ rest nine = absurd (omega arith)
@@ -97,14 +94,8 @@ reaches-nine false true b₃ rest nine = absurd (omega arith)
 reaches-nine false false true rest nine = absurd (omega arith)
 reaches-nine false false false rest nine = (refl, refl)
 
-pub access-violated : (m : Machine) (right address : ℕ) → callOf m (Access right address) .number ≡ 9
-    → callOf m (Access right address) .machine
-    ≡ withLast (Was (record { program = m .current; right = right; address = address })) (withRegisters (withPending true (m .registers)) m)
-unfolding callOf after
-access-violated m right address nine = rw nine
-
 pub violation-denies : (m : Machine) (call : Call) → callOf m call .number ≡ 9 → Violated m call
-unfolding callOf checksOf accessChecks changeChecks after
+unfolding callOf checksOf accessChecks changeChecks
 violation-denies m (Access right address) nine =
     let apart = eqb (bitAnd (fieldOf m right (pageOf m address)) (localContext (m .registers))) 0 in
     let user = pick (inPrivilegedMode m) [] ((m .registers .pending ⇒ 8) ∷ (apart ⇒ 9) ∷ []) in
@@ -115,7 +106,6 @@ violation-denies m (Access right address) nine =
       accessed = refl;
       right-known = leb-true right 1 (not-false _ (passed .0));
       inside = leb-false (memorySize m) address (passed .1);
-      left = access-violated m right address nine;
     }
 violation-denies m (Grant right page s) nine = absurd (not-nine m (Grant right page s) refl nine)
 violation-denies m (Revoke right page s) nine = absurd (not-nine m (Revoke right page s) refl nine)
@@ -128,6 +118,13 @@ violation-denies m (StoreContext bits) nine = absurd (not-nine m (StoreContext b
 violation-denies m (StoreMask bits) nine = absurd (not-nine m (StoreMask bits) refl nine)
 violation-denies m (StoreMode mode) nine = absurd (not-nine m (StoreMode mode) refl nine)
 violation-denies m AskViolation nine = absurd (not-nine m AskViolation refl nine)
+
+-- RULES 3.3: it sets the flag and the last violation: the current program was denied that right to that address. Nothing else changes.
+pub access-violated : (m : Machine) (right address : ℕ) → callOf m (Access right address) .number ≡ 9
+    → callOf m (Access right address) .machine
+    ≡ withLast (Was (record { program = m .current; right = right; address = address })) (withRegisters (withPending true (m .registers)) m)
+unfolding callOf after
+access-violated m right address nine = rw nine
 
 -- RULES 2.12: a call that lists 7, which are return, switch, the kernel's stores and the question for the last violation, is accepted in privileged mode alone
 pub kernel-alone : (m : Machine) (call : Call) → isIn 7 (ownNumbers call) ≡ true → numberOf m call ≡ 0 → inPrivilegedMode m ≡ true
