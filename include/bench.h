@@ -90,7 +90,7 @@
  * the same checkout.
  */
 #define BENCH_VERSION_MAJOR 1
-#define BENCH_VERSION_MINOR 0
+#define BENCH_VERSION_MINOR 1
 
 /* The longest input that is taken, in bytes. */
 #define BENCH_INPUT_MOST 32768
@@ -153,7 +153,10 @@ enum {
     /* kernel store: the mask becomes B */
     BENCH_KIND_STORE_MASK = 10,
     /* kernel store: the mode becomes B, a BENCH_MODE_.. */
-    BENCH_KIND_STORE_MODE = 11
+    BENCH_KIND_STORE_MODE = 11,
+    /* the kernel's question for the last violation: who was denied what; a run
+       gives its number alone, not what it hands out */
+    BENCH_KIND_ASK_VIOLATION = 12
 };
 
 /* The answers. */
@@ -175,12 +178,14 @@ enum {
     BENCH_ANSWER_BAD_DOMAIN = 5,
     /* grant, revoke or mask command in privileged mode */
     BENCH_ANSWER_IN_PRIVILEGED = 6,
-    /* return, switch or kernel store in user mode */
+    /* return, switch, kernel store or question for the last violation in user
+       mode */
     BENCH_ANSWER_IN_USER = 7,
     /* an interrupt is pending: no access and no command before its entry */
     BENCH_ANSWER_PENDING = 8,
     /* violation: the field of the right and the local context, which is global
-       context AND mask, share no domain; an interrupt is now pending */
+       context AND mask, share no domain; an interrupt is now pending, and the
+       machine keeps program, right and address as the last violation */
     BENCH_ANSWER_VIOLATION = 9,
     /* the table has no entry for the current program; not in a run */
     BENCH_ANSWER_NO_TABLE_ENTRY = 10,

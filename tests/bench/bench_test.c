@@ -62,6 +62,7 @@ enum {
 #define READ_PAGE(p) " 01 00 00 00 " p " 00 "
 #define WRITE_PAGE(p) " 01 01 00 00 " p " 00 "
 #define MASK(bits) " 04 00 00 00 " bits " "
+#define QUESTION " 0C 00 00 00 00 00 "
 
 struct text_case {
     const char *name;
@@ -191,7 +192,7 @@ static const struct text_case text_cases[] = {
     {"unused parts are ignored",
      SAMPLE "04 FF FF FF 00 07  05 FF FF FF FF FF  07 FF FF FF 00 00 "
      "09 FF FF FF 00 07  0A FF FF FF 00 07  0B FF FF FF 00 01 "
-     "06 FF FF FF FF FF", "0 0 0 0 0 0 0 0"},
+     "0C FF FF FF FF FF  06 FF FF FF FF FF", "0 0 0 0 0 0 0 0 0"},
 
     /* What each call refuses, and in which order. */
     {"right, address, page and domain in user mode",
@@ -220,9 +221,20 @@ static const struct text_case text_cases[] = {
      "08 00 00 03 00 00" RETURN READ_PAGE("02"),
      "0 0 0 2 3 6 5 6 4 6 16 16 17 2 4 0 9"},
     {"records that are no call",
-     SAMPLE "00 00 00 00 00 00  0C 00 00 00 00 00  FF FF FF FF FF FF"
+     SAMPLE "00 00 00 00 00 00  0E 00 00 00 00 00  FF FF FF FF FF FF"
      READ_PAGE("00") "80 00 00 00 00 00  81 00 00 00 00 00",
      "0 18 18 18 0 18 18"},
+
+    /* The question for the last violation, which leaves all as it was. */
+    {"the question in user mode, with the flag clear and set",
+     SAMPLE QUESTION READ_PAGE("00") READ_PAGE("02") QUESTION READ_PAGE("00"),
+     "0 7 0 9 7 8"},
+    {"the question within an interrupt, asked again, and after a switch",
+     SAMPLE READ_PAGE("02") ENTRY QUESTION QUESTION SWITCH_TO("01") QUESTION
+     ENTRY QUESTION RETURN RETURN QUESTION READ_PAGE("02"),
+     "0 9 0 0 0 0 0 0 0 0 0 7 0"},
+    {"the question at a start in privileged mode",
+     FIRST_PRIVILEGED QUESTION WRITE_PAGE("00") QUESTION, "0 0 0 0"},
 
     /* The stack of saved modes. */
     {"nine entries and nine returns",
@@ -383,7 +395,7 @@ static void add_changed_bytes(void)
     for (size_t i = 0; i < changes; i++) {
         const struct changed_byte *c = &changed_bytes[i];
         uint8_t input[TEXT_INPUT_MOST];
-        size_t input_len = numbers(SAMPLE "00 00 00 00 00 00 0C 00 00 00 00 00",
+        size_t input_len = numbers(SAMPLE "00 00 00 00 00 00 0E 00 00 00 00 00",
                                    16, input, sizeof input);
         const uint8_t answers[] = {c->answer, BENCH_ANSWER_BAD_KIND,
                                    BENCH_ANSWER_BAD_KIND};
@@ -637,6 +649,7 @@ static void check_constants(void)
         BENCH_KIND_MASK, BENCH_KIND_ENTRY, BENCH_KIND_RETURN,
         BENCH_KIND_SWITCH, BENCH_KIND_STORE_FIELD, BENCH_KIND_STORE_CONTEXT,
         BENCH_KIND_STORE_MASK, BENCH_KIND_STORE_MODE,
+        BENCH_KIND_ASK_VIOLATION,
     };
     static const int answers[] = {
         BENCH_ANSWER_DONE, BENCH_ANSWER_NOT_SOUND, BENCH_ANSWER_BAD_RIGHT,
@@ -653,7 +666,7 @@ static void check_constants(void)
         BENCH_ANSWER_IMAGE_SHAPE_ENTRY, BENCH_ANSWER_IMAGE_SHAPE,
         BENCH_ANSWER_IMAGE_BODY_ENTRY, BENCH_ANSWER_IMAGE_MODE,
     };
-    for (int i = 0; i < 11; i++)
+    for (int i = 0; i < 12; i++)
         check(kinds[i] == 1 + i, "kind %d is %d in bench.h", 1 + i, kinds[i]);
     for (int i = 0; i < 19; i++)
         check(answers[i] == i, "answer %d is %d in bench.h", i, answers[i]);

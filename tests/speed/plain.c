@@ -63,6 +63,14 @@ struct program {
     bool privileged;
 };
 
+/* Which program was denied what, where that is known. */
+struct violation {
+    bool known;
+    uint8_t program;
+    uint8_t right;
+    uint32_t address;
+};
+
 struct machine {
     uint8_t page_count;
     uint8_t exponent;
@@ -75,6 +83,7 @@ struct machine {
     uint16_t mask;
     bool saved[DEPTH_MOST]; /* saved modes, true for privileged */
     struct program programs[PROGRAMS_MOST];
+    struct violation last;
     uint16_t fields[PAGES_MOST][2]; /* READ and WRITE of each page */
 };
 
@@ -102,7 +111,10 @@ static inline bool sound(const struct machine *m)
         && m->program_count >= 1 && m->program_count <= PROGRAMS_MOST
         && m->current < m->program_count
         && m->depth <= DEPTH_MOST
-        && !(m->pending && m->privileged);
+        && !(m->pending && m->privileged)
+        && (!m->last.known
+            || (m->last.program < m->program_count && m->last.right <= 1
+                && m->last.address < memory_bytes(m)));
 }
 
 static uint8_t machine_access(struct machine *m, uint8_t right,
@@ -120,6 +132,7 @@ static uint8_t machine_access(struct machine *m, uint8_t right,
         return IS_PENDING;
     if ((m->fields[address >> m->exponent][right] & local_context(m)) == 0) {
         m->pending = true;
+        m->last = (struct violation){true, m->current, right, address};
         return VIOLATION;
     }
     return DONE;
@@ -285,6 +298,19 @@ static uint8_t machine_store_mode(struct machine *m, uint16_t mode)
     return DONE;
 }
 
+/* Hands out the last violation; a run has no use for it. */
+static uint8_t machine_ask_violation(const struct machine *m,
+                                     struct violation *last)
+{
+    *last = (struct violation){0};
+    if (!sound(m))
+        return NOT_SOUND;
+    if (!m->privileged)
+        return IN_USER_MODE;
+    *last = m->last;
+    return DONE;
+}
+
 /* Fills a machine that is all zero; after a refusal it still is. */
 static uint8_t machine_load(struct machine *m, const uint8_t *image,
                             size_t length)
@@ -374,6 +400,10 @@ static uint8_t make_call(struct machine *m, const uint8_t *record)
         return machine_store_mask(m, b);
     case 11:
         return machine_store_mode(m, b);
+    case 12: {
+        struct violation last;
+        return machine_ask_violation(m, &last);
+    }
     default:
         return NOT_A_CALL;
     }

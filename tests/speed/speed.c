@@ -41,6 +41,7 @@ enum kind {
     STORE_CONTEXT = 9,
     STORE_MASK = 10,
     STORE_MODE = 11,
+    ASK_VIOLATION = 12,
 };
 
 struct input {
@@ -217,7 +218,7 @@ static void build_store(struct input *in)
 /* A call with nearly any arguments; most are refused. */
 static void put_stray(struct input *in)
 {
-    unsigned kind = below(13);
+    unsigned kind = below(ASK_VIOLATION + 1);
     unsigned right = below(3);
     unsigned a = below(PAGES + 4);
     unsigned b = below(20);
