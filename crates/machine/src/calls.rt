@@ -6,10 +6,13 @@
 // chosen by it, and the answer is made once at the end.
 use crate::record::Answered;
 use crate::record::Domain;
+use crate::record::LastViolation;
 use crate::record::Machine;
 use crate::record::Page;
 use crate::record::Program;
 use crate::record::Report;
+use crate::record::Violation;
+use crate::record::Violations;
 use crate::record::page_of;
 use crate::record::place;
 use crate::record::read_field;
@@ -136,8 +139,16 @@ impl Machine {
         let field = read_field(fields, at);
         let number = self.access_at(right, address, field);
         let after = registers.or_where(number == 9, registers.with_pending(true));
-        let violations = self.violations
-            .or_denied(number == 9, self.current, right, address);
+        let mut violations = self.violations;
+        if number == 9 {
+            violations = Violations {
+                last: LastViolation::Was(Violation {
+                    program: self.current,
+                    right,
+                    address,
+                }),
+            };
+        }
         self.registers = after;
         self.violations = violations;
         Answered {

@@ -10,7 +10,6 @@ ghost use Rattle.rules.specs.Refusals.{pick};
 ghost use Rattle.rules.specs.Registers.{isPrivileged, modeWhere};
 ghost use Rattle.machine.specs.Machine.{zero, isSound, violationFits, placeOf, noProgram};
 ghost use Rattle.machine.specs.Calls.{handedOut};
-ghost use Rattle.machine.specs.declared.record.LastViolation.the-variants.{Was};
 ghost use Rattle.machine.specs.declared.record.Report.the-variants.{Nothing};
 
 // What is stored for a program: global context, mask and mode (RULES 1.2).
@@ -39,7 +38,7 @@ pub enum LastViolation {
     Was(Violation),
 }
 
-// What the machine keeps of violations.
+// What the machine keeps of violations. A struct around the enum, since a field that is an enum cannot be stored to by itself.
 pub struct Violations {
     pub last: LastViolation,
 }
@@ -97,22 +96,6 @@ impl Violations {
             return true;
         };
         (violation.program < programs) & (violation.right <= 1) & (violation.address < memory)
-    }
-
-    // With another last one where an access was denied (RULES 3.3).
-    pub fn or_denied(self, denied: bool, program: u16, right: u8, address: u32) -> Violations
-        ensures { λ r. ⌜ r ≡ record { last = pick denied (Was (record { program = program; right = right; address = address })) (self .last) } ⌝ }
-    {
-        if denied {
-            return Violations {
-                last: LastViolation::Was(Violation {
-                    program,
-                    right,
-                    address,
-                }),
-            };
-        }
-        self
     }
 
     // What the question for the last one reports: it where the question is answered, nothing where it is refused (RULES 2.13, 3.25).

@@ -1,7 +1,10 @@
 -- `Machine::access_lent` meets its contract: it changes the flag and the last violation alone, and its number is that of the field it read.
-use mathlib.Core.Path.{ap}
+use mathlib.Core.Path.{ap, _∙_}
+use mathlib.Core.Logic.{⊎-elim}
+use borrow.Author.Tests.{eq-eqb, ne-eqb}
 use Rattle.machine.specs.Machine.{withFields}
 use Rattle.machine.specs.Calls.{accessChecks, keeping, checksOf}
+use Rattle.machine.specs.declared.record.Violations.{Violations}
 use Rattle.machine.proofs.Answers.{access-answered}
 use borrow.Author.Needs.{needs}
 use Rattle.machine.proofs.record.Machine.access_lent.Statement.{statement}
@@ -17,10 +20,13 @@ returns c =
     let numbering : tie.After-access-at = (search) in
     let choosing : tie.After-or-where = (search) in
     let a = start .args in
+    let n = numbering .access-at .result in
     ap (keeping (a .self))
     (access-answered (withFields (a .fields .now) (a .self)) (a .right) (a .address)
     (rw (numbering .access-at .ensures, reading .read-field .ensures, placing .place .ensures, paging .page-of .ensures))
-    (rw (choosing .or-where .ensures, choosing .before .with-pending .ensures)) (rw (c .or-denied .ensures)))
+    (rw (choosing .or-where .ensures, choosing .before .with-pending .ensures))
+    (⊎-elim (λ w. ap (λ (v : Violations). v .last) (w .1) ∙ rw (eq-eqb n 9 (w .0 .taken))) (λ w. ap (λ (v : Violations). v .last) (w .1) ∙ rw (ne-eqb n 9 (w .0 .left)))
+    (c .if1 .came)))
 
 pub access-lent-spec : {M : Type 1} → statement M
-access-lent-spec = tie.close (tie.spec (λ c κs. search needs) (λ c κs. search needs) (λ c κs. search needs) (λ c κs. search needs) (λ c κs. search needs) (λ c κs. search needs) (λ c κs. search needs) returns)
+access-lent-spec = tie.close (tie.spec (λ c κs. search needs) (λ c κs. search needs) (λ c κs. search needs) (λ c κs. search needs) (λ c κs. search needs) (λ c κs. search needs) returns)
