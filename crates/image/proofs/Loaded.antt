@@ -10,6 +10,7 @@ use Rattle.rules.specs.Refusals.{first, pick}
 use Rattle.machine.specs.Machine.{isSound, noProgram, zero}
 use Rattle.machine.specs.declared.record.Machine.{Machine}
 use Rattle.machine.specs.declared.record.LastViolation.the-variants.{Absent}
+use Rattle.machine.specs.declared.record.Report.the-variants.{Nothing}
 use Rattle.machine.specs.Listed.{isIn}
 use Rattle.machine.proofs.Sound.{facts-sound}
 use Rattle.machine.proofs.Told.{first-within}
@@ -71,6 +72,11 @@ pub refused-zero : (s : List ℕ) → (loadOf s .number ≡ 0 → ⊥) → loadO
 unfolding loadOf
 refused-zero s refused =
     ap (λ (loads : Bool). pick loads (machineOf (describe s)) zero) (ne-eqb (first (loadChecks s)) 0 refused)
+
+-- RULES 2.13: a load reports nothing
+pub load-silent : (s : List ℕ) → loadOf s .report ≡ Nothing
+unfolding loadOf
+load-silent s = refl
 
 -- RULES 5.8: the numbers of a load, and no others
 pub load-number : (s : List ℕ) → isIn (loadOf s .number) (0 ∷ 20 ∷ 21 ∷ 22 ∷ 23 ∷ 24 ∷ 25 ∷ []) ≡ true

@@ -11,14 +11,14 @@ use Rattle.rules.specs.Domains.{domainBit, prevailing}
 use Rattle.rules.specs.declared.registers.Mode.the-variants.{User, Privileged}
 use Rattle.rules.specs.declared.registers.Registers.{Registers}
 use Rattle.machine.specs.Machine.{isSound, withLast}
-use Rattle.machine.specs.Calls.{callOf, checksOf, effectOf, accessChecks, changeChecks, after}
+use Rattle.machine.specs.Calls.{callOf, checksOf, effectOf, entered, accessChecks, changeChecks, after}
 use Rattle.machine.specs.declared.record.Machine.{Machine}
 use Rattle.machine.specs.declared.record.Program.{Program}
+use Rattle.machine.specs.declared.record.Report.the-variants.{Denied}
 use Rattle.machine.specs.declared.record.Answered.{Answered}
-use Rattle.machine.specs.declared.record.Report.the-variants.{Nothing}
 use Rattle.machine.specs.declared.record.Call.{Call}
-use Rattle.machine.specs.declared.record.Call.the-variants.{Access, Grant, Revoke, SetMask, Return}
-use Rattle.machine.proofs.Written.{stored, live, denied, whole}
+use Rattle.machine.specs.declared.record.Call.the-variants.{Access, Grant, Revoke, SetMask, Enter, Return, AskViolation}
+use Rattle.machine.proofs.Written.{stored, live, denied, whole, gives}
 use Rattle.image.specs.Bytes.{byteAt, wordOf, wordAt, word, entries, bodies}
 use Rattle.image.specs.Description.{bytesOf, machineOf, pad}
 use Rattle.image.specs.Load.{describe, loadChecks, loadOf, lengthTests, kindTests, shapeEntryTests, shapeTests, bodyTests}
@@ -36,10 +36,6 @@ pub bytes-read :
     × (pad {A = ℕ} 3 9 (1 ∷ []) ≡ 1 ∷ 9 ∷ 9 ∷ [])
     × (pad {A = ℕ} 2 9 (1 ∷ 2 ∷ 3 ∷ []) ≡ 1 ∷ 2 ∷ [])
 bytes-read = (refl, refl, refl, refl, refl, refl, refl, refl)
-
--- a number and a machine, and nothing to report
-abbrev gives : ℕ → Machine → Answered
-gives number machine = record { number = number; machine = machine; report = Nothing }
 
 -- a machine at depth 0, with user in its eight stack places, that holds no violation
 abbrev resting : ℕ → ℕ → List ℕ → Registers → ℕ → List Program → Machine
@@ -222,12 +218,14 @@ pub twelve-given : (map outcome starred ≡ twelve) × (map expected starred ≡
 unfolding starred sampleMachine callOf checksOf effectOf accessChecks changeChecks after isSound domainBit prevailing loadOf loadChecks lengthTests kindTests shapeEntryTests shapeTests bodyTests describe machineOf sampleBytes trailingZeros
 twelve-given = (refl, refl)
 
--- a case that says what is not so: what it must give is what it says, and what the definitions give is something else
+-- a case that says what is not so: what it must give is what it says, and what the definitions give is something else; and one whose call reports
 pub cases-judged :
     let wrong : Case = record { before = SetMask 0x0007 ∷ []; call = Return; number = 99; machine = nothing } in
-    outcome wrong ∷ expected wrong ∷ [] ≡ gives 7 (of-sample 9 7 false) ∷ gives 99 nothing ∷ []
-unfolding callOf checksOf effectOf after isSound loadOf loadChecks lengthTests kindTests shapeEntryTests shapeTests bodyTests describe machineOf sampleBytes
-cases-judged = refl
+    let asked : Case = record { before = Access 1 0 ∷ Enter ∷ []; call = AskViolation; number = 0; machine = nothing } in
+    (outcome wrong ∷ expected wrong ∷ [] ≡ gives 7 (of-sample 9 7 false) ∷ gives 99 nothing ∷ [])
+    × (outcome asked .report ≡ Denied (record { program = 0; right = 1; address = 0 }))
+unfolding callOf checksOf accessChecks effectOf entered after isSound loadOf loadChecks lengthTests kindTests shapeEntryTests shapeTests bodyTests describe machineOf sampleBytes
+cases-judged = (refl, refl)
 
 -- the sample's bytes by themselves: their places and what stands there
 pub sample-bytes :

@@ -33,8 +33,8 @@ abbrev WRITE : ℕ
 WRITE = 1
 
 -- RULES 1.16: a violation of program 0, which the sample node starts on
-abbrev first : ℕ → ℕ → LastViolation
-first right address = Was (record { program = 0; right = right; address = address })
+abbrev denied : ℕ → ℕ → LastViolation
+denied right address = Was (record { program = 0; right = right; address = address })
 
 -- RULES 5.13: the table, in its order; page 1 starts at address 256
 unfoldable pub starred : List Case
@@ -44,9 +44,9 @@ starred =
     -- and so has WRITE
     ∷ row [] (Access WRITE 256) 0 sampleMachine
     -- WRITE of page 0 has no domain
-    ∷ row [] (Access WRITE 0) 9 (withLast (first WRITE 0) (node sampleFields (live 0x0003 true)))
+    ∷ row [] (Access WRITE 0) 9 (withLast (denied WRITE 0) (node sampleFields (live 0x0003 true)))
     -- READ of page 2 has domains 2 and 3, neither of them in the local context
-    ∷ row [] (Access READ 767) 9 (withLast (first READ 767) (node sampleFields (live 0x0003 true)))
+    ∷ row [] (Access READ 767) 9 (withLast (denied READ 767) (node sampleFields (live 0x0003 true)))
     -- memory ends before this address
     ∷ row [] (Access READ 768) 3 sampleMachine
     -- domain 0 prevails, and its own level is not lower

@@ -7,7 +7,7 @@ use Rattle.machine.specs.declared.record.Domain.{Domain}
 use Rattle.machine.specs.declared.record.Call.{Call}
 use Rattle.machine.specs.declared.record.Call.the-variants.{Access, Grant, Revoke, SetMask, Enter, Return, Switch}
 
--- RULES 4.1: what a turn's list is made of, with any arguments; the kernel's stores are in no turn
+-- RULES 4.1: what a turn's list is made of, with any arguments; the kernel's stores and its question for the last violation are in no turn
 pub data Command : Type 0 where
   access : (right address : ℕ) → Command
   grant : (right : ℕ) (page : Page) (s : Domain) → Command

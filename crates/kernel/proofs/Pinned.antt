@@ -8,7 +8,7 @@ use Rattle.rules.specs.declared.registers.Mode.the-variants.{User}
 use Rattle.machine.specs.Machine.{isSound, withLast}
 use Rattle.machine.specs.Calls.{callOf, checksOf, accessChecks, effectOf, entered, returned, switched, after}
 use Rattle.machine.specs.declared.record.Machine.{Machine}
-use Rattle.machine.specs.declared.record.Call.the-variants.{Access, Grant, Revoke, SetMask}
+use Rattle.machine.specs.declared.record.Call.the-variants.{Access, Grant, Revoke, SetMask, Enter, Return, Switch}
 use Rattle.machine.proofs.Written.{stored, live, denied, whole}
 use Rattle.kernel.specs.Kernel.{callFor, begunOf, servedOf}
 use Rattle.kernel.specs.declared.Request.the-variants.{Read, Write, GrantRight, RevokeRight, ReplaceMask}
@@ -42,6 +42,15 @@ pub turns-begun :
     × (begunOf (node 8 true) 1 ≡ record { entry = 13; switch = 7; leave = 7; machine = node 8 true })
 unfolding begunOf callOf checksOf effectOf entered returned switched after isSound
 turns-begun = (refl, refl, refl)
+
+-- a turn that begins on any machine: what the three calls make of it is what stands after them
+pub turn-spelled : (m : Machine) (program : ℕ)
+    → let entry = callOf m Enter in
+    let switch = callOf (entry .machine) (Switch program) in
+    let leave = callOf (switch .machine) Return in
+    begunOf m program ≡ record { entry = entry .number; switch = switch .number; leave = leave .number; machine = leave .machine }
+unfolding begunOf
+turn-spelled m program = refl
 
 -- an access that is allowed, one that is a violation, and one while it is pending
 pub requests-served :

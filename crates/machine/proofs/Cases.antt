@@ -218,6 +218,7 @@ pub kernel-effects :
     ∷ (before, StoreMask 65280, kernel figure (live 7 65280 Privileged false) 0 User entry)
     ∷ (before, StoreMode 0, kernel figure (live 7 3 User false) 0 User entry)
     ∷ (before, StoreMode 1, before)
+    ∷ (before, AskViolation, before)
     ∷ [])
 unfolding callOf checksOf effectOf switched after isSound
 kernel-effects = refl

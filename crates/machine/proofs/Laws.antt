@@ -5,7 +5,7 @@ use mathlib.Core.Path.{_≡_, refl, sym, _∙_}
 use mathlib.Core.Bool.{Bool, true, false, not, _||_, true≢false}
 use mathlib.Core.List.{List, [], _∷_}
 use native.Mathlib.Omega.{arith}
-use borrow.Author.Tests.{eqb-true, eqb-false, ne-eqb, leb-true, leb-false, not-false, le-leb, lt-ltb}
+use borrow.Author.Tests.{eqb-false, ne-eqb, leb-true, leb-false, not-false, le-leb, lt-ltb}
 use lib.Bits.{bitAnd}
 use lib.Dec.{leb, eqb}
 use lib.ListN.{getD}
@@ -15,6 +15,7 @@ use Rattle.machine.specs.Machine.{isRight, isSound, memorySize, fieldOf,
 use Rattle.machine.specs.Calls.{callOf, answerBy, silent, checksOf, accessChecks, changeChecks, effectOf, deniedBy, handedOut, inPrivilegedMode, inUserMode, numberOf, pageOf, after, violated}
 use Rattle.machine.specs.Listed.{isIn, listed, ownNumbers, soundNumbers}
 use Rattle.machine.specs.declared.record.Machine.{Machine}
+use Rattle.machine.specs.declared.record.LastViolation.{LastViolation}
 use Rattle.machine.specs.declared.record.LastViolation.the-variants.{Was}
 use Rattle.machine.specs.declared.record.Report.the-variants.{Nothing}
 use Rattle.machine.specs.declared.record.Call.{Call}
@@ -140,37 +141,22 @@ soundness-kept m call = split (isSound m) refl
         let v = violation-denies m call nine in
         rw (v .accessed, lt-ltb _ _ (s .current-below), le-leb _ _ (v .right-known), lt-ltb _ _ (v .inside))
 
-    refused : (n : ℕ) → isSound m ≡ true → numberOf m call ≡ n → (b : Bool) → eqb n 9 ≡ b → isSound (pick b (violated m call) m) ≡ true
-    refused n h e true nine =
+    violated-sound : isSound m ≡ true → numberOf m call ≡ 9 → isSound (violated m call) ≡ true
+    violated-sound h nine =
         let s = sound-facts m h in
-        let number = e ∙ eqb-true n 9 nine in
-        moved-sound m (violated m call) (refl, refl, refl) h (s .depth-most) (s .current-below) (violation-in-user-mode m call number) (denied-fits number s)
-    refused n h e false nine = h
+        moved-sound m (violated m call) (refl, refl, refl) h (s .depth-most) (s .current-below) (violation-in-user-mode m call nine)
+        (denied-fits nine s)
 
-    called : isSound m ≡ true → (b : Bool) → eqb (numberOf m call) 0 ≡ b
-        → isSound (pick b (effectOf m call) (pick (eqb (numberOf m call) 9) (violated m call) m)) ≡ true
-    called h true e = told m call .sound h (eqb-true (numberOf m call) 0 e)
-    called h false e = refused (numberOf m call) h refl (eqb (numberOf m call) 9) refl
-
-    split : (b : Bool) → isSound m ≡ b
-        → isSound (pick (eqb (numberOf m call) 0) (effectOf m call) (pick (eqb (numberOf m call) 9) (violated m call) m)) ≡ b
-    split true h = called h (eqb (numberOf m call) 0) refl
+    split : (b : Bool) → isSound m ≡ b → isSound (after (numberOf m call) m call) ≡ b
+    split true h = after-cases (λ end. isSound end ≡ true) (numberOf m call) m call (told m call .sound h) (violated-sound h) h
     split false h = rw h h
 
 -- what neither the effect of an accepted call nor a violation changes, no call changes
 kept-by-call : {A : Type 0} (part : Machine → A) (m : Machine) (call : Call) → (numberOf m call ≡ 0 → part (effectOf m call) ≡ part m)
     → part (violated m call) ≡ part m → part (callOf m call .machine) ≡ part m
-unfolding callOf after
-kept-by-call part m call effect violation = split (eqb (numberOf m call) 0) refl
-  where
-    flagged : (b : Bool) → part (pick b (violated m call) m) ≡ part m
-    flagged true = violation
-    flagged false = refl
-
-    split : (b : Bool) → eqb (numberOf m call) 0 ≡ b
-        → part (pick b (effectOf m call) (pick (eqb (numberOf m call) 9) (violated m call) m)) ≡ part m
-    split true e = effect (eqb-true (numberOf m call) 0 e)
-    split false e = flagged (eqb (numberOf m call) 9)
+unfolding callOf
+kept-by-call part m call effect violation =
+    after-cases (λ end. part end ≡ part m) (numberOf m call) m call effect (λ nine. violation) refl
 
 -- RULES 2.5, 3.3: no answer but 9 changes the last violation, of whatever call
 pub last-kept : (m : Machine) (call : Call) → (callOf m call .number ≡ 9 → ⊥) → callOf m call .machine .violations .last ≡ m .violations .last
@@ -178,6 +164,22 @@ unfolding callOf
 last-kept m call other =
     after-cases (λ end. end .violations .last ≡ m .violations .last) (numberOf m call) m call (λ n. told m call .left n .last-stays)
     (λ nine. absurd (other nine)) refl
+
+-- RULES 1.16: no condition of a call looks at the last violation
+pub last-unseen : (m : Machine) (last : LastViolation) (call : Call) → checksOf (withLast last m) call ≡ checksOf m call
+unfolding checksOf accessChecks changeChecks
+last-unseen m last (Access right address) = refl
+last-unseen m last (Grant right page s) = refl
+last-unseen m last (Revoke right page s) = refl
+last-unseen m last (SetMask bits) = refl
+last-unseen m last Enter = refl
+last-unseen m last Return = refl
+last-unseen m last (Switch program) = refl
+last-unseen m last (StoreField right page bits) = refl
+last-unseen m last (StoreContext bits) = refl
+last-unseen m last (StoreMask bits) = refl
+last-unseen m last (StoreMode mode) = refl
+last-unseen m last AskViolation = refl
 
 -- RULES 2.13: a refused call reports nothing
 pub refused-silent : (m : Machine) (call : Call) → (callOf m call .number ≡ 0 → ⊥) → callOf m call .report ≡ Nothing

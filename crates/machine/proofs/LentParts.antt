@@ -7,7 +7,7 @@ use mathlib.Core.List.{List}
 use lib.Dec.{eqb}
 use Rattle.rules.specs.Refusals.{pick}
 use Rattle.machine.specs.Machine.{withFields, withStack, withLent}
-use Rattle.machine.specs.Calls.{uncheckedOf, answerBy, silent, ownNumberOf, changeCall, checksOf, effectOf, deniedBy, reportOf, keeping, violated}
+use Rattle.machine.specs.Calls.{uncheckedOf, answerBy, silent, ownNumberOf, changeCall, checksOf, effectOf, reportOf, keeping, violated}
 use Rattle.machine.specs.declared.record.Machine.{Machine}
 use Rattle.machine.specs.declared.record.Page.{Page}
 use Rattle.machine.specs.declared.record.Domain.{Domain}

@@ -7,7 +7,7 @@ use lib.Dec.{eqb}
 use Rattle.rules.specs.Refusals.{pick}
 use Rattle.rules.specs.Registers.{isPrivileged, withMask, maskNumber, maskedOf}
 use Rattle.rules.specs.declared.registers.Registers.{Registers}
-use Rattle.machine.specs.Machine.{isSound, withRegisters}
+use Rattle.machine.specs.Machine.{isSound}
 use Rattle.machine.specs.Calls.{callOf, checksOf, effectOf, after}
 use Rattle.machine.specs.declared.record.Machine.{Machine}
 use Rattle.machine.specs.declared.record.Call.the-variants.{SetMask}

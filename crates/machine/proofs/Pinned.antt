@@ -19,12 +19,11 @@ use Rattle.machine.specs.declared.record.Program.{Program}
 use Rattle.machine.specs.declared.record.Page.{Page}
 use Rattle.machine.specs.declared.record.LastViolation.{LastViolation}
 use Rattle.machine.specs.declared.record.LastViolation.the-variants.{Absent}
-use Rattle.machine.specs.declared.record.Report.{Report}
 use Rattle.machine.specs.declared.record.Report.the-variants.{Nothing, Denied}
 use Rattle.machine.specs.declared.record.Answered.{Answered}
 use Rattle.machine.specs.declared.record.Call.{Call}
 use Rattle.machine.specs.declared.record.Call.the-variants.{Access, Grant, Revoke, SetMask, Enter, Return, Switch, StoreField, StoreContext, StoreMask, StoreMode, AskViolation}
-use Rattle.machine.proofs.Written.{stored, live, denied, holding, whole, Answers, both}
+use Rattle.machine.proofs.Written.{stored, live, denied, holding, whole, gives, Answers, both}
 
 -- "every number is zero, every mode user and the flag clear": 256 fields, eight places on the stack, eight entries in the table
 pub all-zero :
@@ -103,7 +102,7 @@ last-page-order = (refl, refl, refl, refl)
 
 -- a machine, a call that is made on it, and the number and the machine after it; nothing is reported
 abbrev Outcomes : (Machine → Call → Answered) → List (Machine × Call × ℕ × Machine) → Type 0
-Outcomes made rows = map (λ row. made (row .0) (row .1)) rows ≡ map (λ row. record { number = row .2; machine = row .3; report = Nothing }) rows
+Outcomes made rows = map (λ row. made (row .0) (row .1)) rows ≡ map (λ row. gives (row .2) (row .3)) rows
 
 pub last-page-outcomes :
     let r = live 0x0300 0xFFFF User false in
@@ -181,11 +180,13 @@ kernel-outcomes = refl
 
 -- ---- the question for the last violation
 
-abbrev handing : ℕ → Machine → Report → Answered
-handing number machine report = record { number = number; machine = machine; report = report }
+-- an answer that reports a violation
+abbrev hands : Machine → ℕ → ℕ → ℕ → Answered
+hands machine program right address =
+    record { number = 0; machine = machine; report = Denied (record { program = program; right = right; address = address }) }
 
 -- in privileged mode it hands out what is kept, or nothing; in user mode and on a machine that is not sound it hands out nothing, whatever is kept
-pub questions-answered :
+pub question-cases :
     let kept : Mode → ℕ → LastViolation → Machine = λ mode depth last. holding last 2 5 [] (live 1 2 mode false) depth [] 3 1 [] in
     (map (λ (m : Machine). callOf m AskViolation)
     (kept Privileged 0 Absent
@@ -195,19 +196,18 @@ pub questions-answered :
     ∷ kept Privileged 9 (denied 2 1 63)
     ∷ kept Privileged 1 (denied 3 1 63)
     ∷ [])
-    ≡ handing 0 (kept Privileged 0 Absent) Nothing
-    ∷ handing 0 (kept Privileged 8 (denied 2 1 63)) (Denied (record { program = 2; right = 1; address = 63 }))
-    ∷ handing 0 (kept Privileged 1 (denied 0 0 0)) (Denied (record { program = 0; right = 0; address = 0 }))
-    ∷ handing 7 (kept User 0 (denied 2 1 63)) Nothing
-    ∷ handing 1 (kept Privileged 9 (denied 2 1 63)) Nothing
-    ∷ handing 1 (kept Privileged 1 (denied 3 1 63)) Nothing
+    ≡ gives 0 (kept Privileged 0 Absent)
+    ∷ hands (kept Privileged 8 (denied 2 1 63)) 2 1 63
+    ∷ hands (kept Privileged 1 (denied 0 0 0)) 0 0 0
+    ∷ gives 7 (kept User 0 (denied 2 1 63))
+    ∷ gives 1 (kept Privileged 9 (denied 2 1 63))
+    ∷ gives 1 (kept Privileged 1 (denied 3 1 63))
     ∷ [])
-    × (uncheckedOf (kept Privileged 9 (denied 3 2 64)) AskViolation
-    ≡ handing 0 (kept Privileged 9 (denied 3 2 64)) (Denied (record { program = 3; right = 2; address = 64 })))
+    × (uncheckedOf (kept Privileged 9 (denied 3 2 64)) AskViolation ≡ hands (kept Privileged 9 (denied 3 2 64)) 3 2 64)
     × (handedOut Absent ∷ handedOut (denied 7 1 65023) ∷ [] ≡ Nothing ∷ Denied (record { program = 7; right = 1; address = 65023 }) ∷ [])
-    × (silent 18 zero ≡ handing 18 zero Nothing)
+    × (silent 18 zero ≡ gives 18 zero)
 unfolding callOf uncheckedOf checksOf effectOf after isSound
-questions-answered = (refl, refl, refl, refl)
+question-cases = (refl, refl, refl, refl)
 
 -- a stored violation of a machine with 3 pages of 256 bytes and 2 programs, and of one with 128 pages of 512 bytes and 8 programs
 pub violations-sound :

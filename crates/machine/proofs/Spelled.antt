@@ -15,12 +15,9 @@ use Rattle.rules.specs.Registers.{isPrivileged}
 use Rattle.machine.specs.Calls.{callOf, uncheckedOf, deniedBy, reportOf, checksOf, accessChecks, changeChecks, effectOf, entered, returned, switched, after}
 use Rattle.machine.specs.Machine.{isSound, violationFits}
 use Rattle.machine.specs.declared.record.Machine.{Machine}
-use Rattle.machine.specs.declared.record.Program.{Program}
 use Rattle.machine.specs.declared.record.Page.{Page}
 use Rattle.machine.specs.declared.record.Domain.{Domain}
-use Rattle.machine.specs.declared.record.LastViolation.{LastViolation}
 use Rattle.machine.specs.declared.record.LastViolation.the-variants.{Absent}
-use Rattle.machine.specs.declared.record.Report.{Report}
 use Rattle.machine.specs.declared.record.Report.the-variants.{Nothing, Denied}
 use Rattle.machine.specs.declared.record.Answered.{Answered}
 use Rattle.machine.specs.declared.record.Call.{Call}

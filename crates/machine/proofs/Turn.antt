@@ -96,12 +96,13 @@ turn-begins m program sound depth long below = by-stack (m .saved) refl long
         let same : start m top rest program ≡ m = rw (← e, ← depth) in
         subst (λ x. Turned x program) same (turned-start m top rest program (rw same sound) below)
 
--- RULES 3.25: who was denied what: after a violation and the interrupt that it asks for, the question hands out its program, right and address
+-- RULES 3.25: who was denied what: after a violation below depth 8 and the interrupt that it asks for, the question hands out its program, right and
+-- address
 pub denial-handed-out : (m : Machine) (right address : ℕ) → callOf m (Access right address) .number ≡ 9 → m .depth < 8
     → let denied = callOf m (Access right address) .machine in
-    let entered = callOf denied Enter .machine in
-    (callOf entered AskViolation .number ≡ 0)
-    × (callOf entered AskViolation .report ≡ Denied (record { program = m .current; right = right; address = address }))
+    let interrupt = callOf denied Enter .machine in
+    (callOf interrupt AskViolation .number ≡ 0)
+    × (callOf interrupt AskViolation .report ≡ Denied (record { program = m .current; right = right; address = address }))
 unfolding entered
 denial-handed-out m right address nine below =
     let call = Access right address in

@@ -10,6 +10,7 @@ use Rattle.machine.specs.declared.record.Machine.{Machine}
 use Rattle.machine.specs.declared.record.Program.{Program}
 use Rattle.machine.specs.declared.record.LastViolation.{LastViolation}
 use Rattle.machine.specs.declared.record.LastViolation.the-variants.{Absent, Was}
+use Rattle.machine.specs.declared.record.Report.the-variants.{Nothing}
 use Rattle.machine.specs.declared.record.Answered.{Answered}
 use Rattle.machine.specs.declared.record.Call.{Call}
 use Rattle.machine.specs.declared.record.Call.the-variants.{Grant, Revoke}
@@ -42,6 +43,10 @@ holding last pages exponent fields registers depth saved programs current table 
 -- one that holds no violation
 abbrev pub whole : ℕ → ℕ → List ℕ → Registers → ℕ → List Bool → ℕ → ℕ → List Program → Machine
 whole = holding Absent
+
+-- an answer that reports nothing
+abbrev pub gives : ℕ → Machine → Answered
+gives number machine = record { number = number; machine = machine; report = Nothing }
 
 -- what calls on a machine answer, each by itself
 abbrev pub Answers : (Machine → Call → Answered) → Machine → List (Call × ℕ) → Type 0

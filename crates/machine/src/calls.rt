@@ -39,7 +39,7 @@ ghost use mathlib.Core.List.{[], _∷_};
 ghost use Prim.Native.Nat.{_-_};
 ghost use Rattle.rules.specs.Domains.{prevailing, withBit, withoutBit};
 ghost use Rattle.rules.specs.Refusals.{pick, first, _⇒_};
-ghost use Rattle.machine.specs.Machine.{isSound, withFields, withStack};
+ghost use Rattle.machine.specs.Machine.{withFields, withStack};
 ghost use Rattle.machine.specs.declared.record.Call.{Call};
 ghost use Rattle.machine.specs.Calls.{callOf, uncheckedOf, answerBy, ownNumberOf, keeping, changeCall, accessChecks, changeChecks, inUserMode, modeOf, silent};
 

@@ -16,10 +16,8 @@ use Rattle.image.proofs.Pinned.{long-bytes}
 use Rattle.machine.specs.Machine.{isSound, withLast}
 use Rattle.machine.specs.Calls.{callOf, uncheckedOf, checksOf, accessChecks, changeChecks, effectOf, entered, returned, switched, after}
 use Rattle.machine.specs.declared.record.Machine.{Machine}
-use Rattle.machine.specs.declared.record.Answered.{Answered}
-use Rattle.machine.specs.declared.record.Report.the-variants.{Nothing}
 use Rattle.machine.specs.declared.record.Call.the-variants.{Access, Grant, Revoke, SetMask, Enter, Return, Switch, StoreField, StoreContext, StoreMask, StoreMode, AskViolation}
-use Rattle.machine.proofs.Written.{stored, live, denied, whole}
+use Rattle.machine.proofs.Written.{stored, live, denied, whole, gives}
 use Rattle.run.specs.Records.{callOfKind, callsOf, stepBy, stepOf, uncheckedStepOf}
 use Rattle.run.specs.Run.{answersFrom, answersOf, callAnswers, callBytes, imageOf, isLong, sent}
 use Rattle.run.specs.declared.records.Decoded.the-variants.{Known, Unknown}
@@ -63,23 +61,20 @@ records-cut = (refl, refl)
 abbrev small : ℕ → ℕ → Mode → Bool → List Bool → Machine
 small depth mask mode pending saved = whole 1 5 (1 ∷ 0 ∷ []) (live 1 mask mode pending) depth saved 1 0 (stored 1 1 User ∷ [])
 
-abbrev answered : ℕ → Machine → Answered
-answered number machine = record { number = number; machine = machine; report = Nothing }
-
--- steps: an unknown record is answered 18 and leaves the machine alone, sound or not; a call is made, with the check for 1 or without it
+-- steps: an unknown record is gives 18 and leaves the machine alone, sound or not; a call is made, with the check for 1 or without it
 pub steps-made :
     let m = small 0 1 User false (false ∷ []) in
     let deep = small 9 1 User false (false ∷ []) in
     (map (stepOf m) (Unknown ∷ Known (SetMask 6) ∷ Known (Access 1 0) ∷ Known Enter ∷ Known Return ∷ [])
-    ≡ answered 18 m
-    ∷ answered 0 (small 0 6 User false (false ∷ []))
-    ∷ answered 9 (withLast (denied 0 1 0) (small 0 1 User true (false ∷ [])))
-    ∷ answered 0 (small 1 1 Privileged false (false ∷ []))
-    ∷ answered 7 m
+    ≡ gives 18 m
+    ∷ gives 0 (small 0 6 User false (false ∷ []))
+    ∷ gives 9 (withLast (denied 0 1 0) (small 0 1 User true (false ∷ [])))
+    ∷ gives 0 (small 1 1 Privileged false (false ∷ []))
+    ∷ gives 7 m
     ∷ [])
-    × (map (stepOf deep) (Unknown ∷ Known (SetMask 6) ∷ Known Enter ∷ []) ≡ answered 18 deep ∷ answered 1 deep ∷ answered 1 deep ∷ [])
+    × (map (stepOf deep) (Unknown ∷ Known (SetMask 6) ∷ Known Enter ∷ []) ≡ gives 18 deep ∷ gives 1 deep ∷ gives 1 deep ∷ [])
     × (map (uncheckedStepOf deep) (Unknown ∷ Known (SetMask 6) ∷ Known Enter ∷ [])
-    ≡ answered 18 deep ∷ answered 0 (small 9 6 User false (false ∷ [])) ∷ answered 13 deep ∷ [])
+    ≡ gives 18 deep ∷ gives 0 (small 9 6 User false (false ∷ [])) ∷ gives 13 deep ∷ [])
 unfolding stepBy callOf uncheckedOf checksOf accessChecks effectOf entered after isSound
 steps-made = (refl, refl, refl)
 

@@ -14,7 +14,7 @@ use Rattle.machine.specs.declared.record.Report.the-variants.{Nothing}
 use Rattle.machine.specs.declared.record.Call.{Call}
 use Rattle.machine.specs.declared.record.Call.the-variants.{Access, Grant, Revoke, SetMask, Enter, Return, Switch, StoreField, StoreContext, StoreMask, StoreMode, AskViolation}
 use Rattle.run.specs.Records.{callOfKind, callsOf, stepBy, uncheckedStepOf}
-use Rattle.run.specs.Run.{answersFrom, callAnswers, sent}
+use Rattle.run.specs.Run.{answersFrom, callAnswers, loadedOf, sent}
 use Rattle.run.specs.declared.records.Decoded.{Decoded}
 use Rattle.run.specs.declared.records.Decoded.the-variants.{Known, Unknown}
 
@@ -44,11 +44,12 @@ pub run-spelled : (input : List ℕ) (room : ℕ) (m : Machine) (call : Call) (r
     → let start = loadOf (take (wordAt input 0) (drop 2 input)) in
     let calls = drop (wordAt input 0) (drop 2 input) in
     let answers : List ℕ = start .number ∷ pick (eqb (start .number) 0) (answersFrom (start .machine) (callsOf calls)) [] in
-    (sent input room ≡ pick (ltb 32768 (length input)) [] (pick (leb (length answers) room) answers []))
+    (loadedOf input ≡ start)
+    × (sent input room ≡ pick (ltb 32768 (length input)) [] (pick (leb (length answers) room) answers []))
     × (answersFrom m (Known call ∷ rest) ≡ callOf m call .number ∷ answersFrom (callOf m call .machine) rest)
     × (answersFrom m (Unknown ∷ rest) ≡ 18 ∷ answersFrom m rest)
     × (answersFrom m [] ≡ [])
     × (uncheckedStepOf m (Known call) ≡ uncheckedOf m call)
     × (uncheckedStepOf m Unknown ≡ record { number = 18; machine = m; report = Nothing })
 unfolding sent callAnswers answersFrom stepBy
-run-spelled input room m call rest = (refl, refl, refl, refl, refl, refl)
+run-spelled input room m call rest = (refl, refl, refl, refl, refl, refl, refl)
