@@ -37,7 +37,7 @@ pub bytes-read :
     × (pad {A = ℕ} 2 9 (1 ∷ 2 ∷ 3 ∷ []) ≡ 1 ∷ 2 ∷ [])
 bytes-read = (refl, refl, refl, refl, refl, refl, refl, refl)
 
--- a machine at depth 0, with user in its eight stack places, that holds no violation
+-- a machine at depth 0, with user in its eight stack places, that has no last violation
 abbrev resting : ℕ → ℕ → List ℕ → Registers → ℕ → List Program → Machine
 resting pages exponent fields registers programs table = whole pages exponent fields registers 0 (replicate 8 false) programs 0 table
 

@@ -1,5 +1,5 @@
--- The laws of all calls, each stated once over `Call`: listed numbers, refusals, soundness and what a call leaves alone. They rest on what is
--- told of each call (Told.antt).
+-- The laws of all calls, each stated once over `Call`: listed numbers, refusals, violations, soundness, what a call leaves alone and what is
+-- reported; and what a violation leaves and the question for it answers. They rest on what is told of each call (Told.antt).
 use Prim.Native.Nat.{ℕ, _*_, _^_, _≤_, _<_}
 use mathlib.Core.Path.{_≡_, refl, sym, _∙_}
 use mathlib.Core.Bool.{Bool, true, false, not, _||_, true≢false}
@@ -12,7 +12,7 @@ use lib.ListN.{getD}
 use Rattle.rules.specs.Registers.{localContext, withPending}
 use Rattle.rules.specs.Refusals.{Check, _⇒_, first, pick}
 use Rattle.machine.specs.Machine.{isRight, isSound, memorySize, fieldOf, violationFits, noProgram, withRegisters, withLast}
-use Rattle.machine.specs.Calls.{callOf, answerBy, silent, checksOf, accessChecks, changeChecks, effectOf, deniedBy, handedOut, inPrivilegedMode, inUserMode, numberOf, pageOf, after, violated}
+use Rattle.machine.specs.Calls.{callOf, answerBy, silent, checksOf, accessChecks, changeChecks, effectOf, entered, returned, switched, deniedBy, handedOut, inPrivilegedMode, inUserMode, numberOf, pageOf, after, violated}
 use Rattle.machine.specs.Listed.{isIn, listed, ownNumbers, soundNumbers}
 use Rattle.machine.specs.declared.record.Machine.{Machine}
 use Rattle.machine.specs.declared.record.LastViolation.{LastViolation}
@@ -21,7 +21,7 @@ use Rattle.machine.specs.declared.record.Report.the-variants.{Nothing}
 use Rattle.machine.specs.declared.record.Call.{Call}
 use Rattle.machine.specs.declared.record.Call.the-variants.{Access, Grant, Revoke, SetMask, Enter, Return, Switch, StoreField, StoreContext, StoreMask, StoreMode, AskViolation}
 use Rattle.machine.proofs.Sound.{Sound, sound-facts, moved-sound}
-use Rattle.machine.proofs.Answers.{first-avoids, not-nine, after-cases}
+use Rattle.machine.proofs.Answers.{first-avoids, not-nine, after-cases, after-both}
 use Rattle.machine.proofs.Told.{told, shape, first-within}
 
 own-number : (m : Machine) (call : Call) → isIn (first (checksOf m call)) (0 ∷ ownNumbers call) ≡ true
@@ -82,7 +82,7 @@ violation-in-user-mode m call nine = split (inPrivilegedMode m) refl
     split false e = refl
 
 -- RULES 3.2, 9.1: a violation is answered to an access alone, of a right that is one, to an address in memory
-pub record Violated (m : Machine) (call : Call) : Type 0 where
+pub record DeniedAccess (m : Machine) (call : Call) : Type 0 where
   pub right : ℕ
   pub address : ℕ
   pub accessed : call ≡ Access right address
@@ -95,7 +95,7 @@ reaches-nine false true b₃ rest nine = absurd (omega arith)
 reaches-nine false false true rest nine = absurd (omega arith)
 reaches-nine false false false rest nine = (refl, refl)
 
-pub violation-denies : (m : Machine) (call : Call) → callOf m call .number ≡ 9 → Violated m call
+pub violation-denies : (m : Machine) (call : Call) → callOf m call .number ≡ 9 → DeniedAccess m call
 unfolding callOf checksOf accessChecks changeChecks
 violation-denies m (Access right address) nine =
     let apart = eqb (bitAnd (fieldOf m right (pageOf m address)) (localContext (m .registers))) 0 in
@@ -165,21 +165,32 @@ last-kept m call other =
     after-cases (λ end. end .violations .last ≡ m .violations .last) (numberOf m call) m call (λ n. told m call .left n .last-stays)
     (λ nine. absurd (other nine)) refl
 
--- RULES 1.16: no condition of a call looks at the last violation
-pub last-unseen : (m : Machine) (last : LastViolation) (call : Call) → checksOf (withLast last m) call ≡ checksOf m call
-unfolding checksOf accessChecks changeChecks
-last-unseen m last (Access right address) = refl
-last-unseen m last (Grant right page s) = refl
-last-unseen m last (Revoke right page s) = refl
-last-unseen m last (SetMask bits) = refl
-last-unseen m last Enter = refl
-last-unseen m last Return = refl
-last-unseen m last (Switch program) = refl
-last-unseen m last (StoreField right page bits) = refl
-last-unseen m last (StoreContext bits) = refl
-last-unseen m last (StoreMask bits) = refl
-last-unseen m last (StoreMode mode) = refl
-last-unseen m last AskViolation = refl
+-- neither a call's own conditions nor the rest of its effect know of the last violation
+aside-last : (m : Machine) (last other : LastViolation) (call : Call)
+    → (checksOf (withLast last m) call ≡ checksOf m call)
+    × (withLast other (effectOf (withLast last m) call) ≡ withLast other (effectOf m call))
+unfolding checksOf accessChecks changeChecks effectOf entered returned switched
+aside-last m last other (Access right address) = (refl, refl)
+aside-last m last other (Grant right page s) = (refl, refl)
+aside-last m last other (Revoke right page s) = (refl, refl)
+aside-last m last other (SetMask bits) = (refl, refl)
+aside-last m last other Enter = (refl, refl)
+aside-last m last other Return = (refl, refl)
+aside-last m last other (Switch program) = (refl, refl)
+aside-last m last other (StoreField right page bits) = (refl, refl)
+aside-last m last other (StoreContext bits) = (refl, refl)
+aside-last m last other (StoreMask bits) = (refl, refl)
+aside-last m last other (StoreMode mode) = (refl, refl)
+aside-last m last other AskViolation = (refl, refl)
+
+-- RULES 1.16: whichever violation is the last, on a sound machine a call answers the same number, and what is left but the last violation is the same
+pub last-unseen : (m : Machine) (last other : LastViolation) (call : Call) → isSound m ≡ true → isSound (withLast last m) ≡ true
+    → (callOf (withLast last m) call .number ≡ callOf m call .number)
+    × (withLast other (callOf (withLast last m) call .machine) ≡ withLast other (callOf m call .machine))
+unfolding callOf
+last-unseen m last other call sound sound′ =
+    let aside = aside-last m last other call in
+    rw (sound, sound′, aside .0) (refl, after-both (λ a b. withLast other a ≡ withLast other b) (first (checksOf m call)) call (aside .1) refl refl)
 
 -- RULES 2.13: a refused call reports nothing
 pub refused-silent : (m : Machine) (call : Call) → (callOf m call .number ≡ 0 → ⊥) → callOf m call .report ≡ Nothing

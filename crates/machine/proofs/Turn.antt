@@ -99,17 +99,17 @@ turn-begins m program sound depth long below = by-stack (m .saved) refl long
 -- RULES 3.25: who was denied what: after a violation below depth 8 and the interrupt that it asks for, the question hands out its program, right and
 -- address
 pub denial-handed-out : (m : Machine) (right address : ℕ) → callOf m (Access right address) .number ≡ 9 → m .depth < 8
-    → let denied = callOf m (Access right address) .machine in
-    let interrupt = callOf denied Enter .machine in
+    → let flagged = callOf m (Access right address) .machine in
+    let interrupt = callOf flagged Enter .machine in
     (callOf interrupt AskViolation .number ≡ 0)
     × (callOf interrupt AskViolation .report ≡ Denied (record { program = m .current; right = right; address = address }))
 unfolding entered
 denial-handed-out m right address nine below =
     let call = Access right address in
     let sound : isSound m ≡ true = not-false (isSound m) (sym (one-exactly m call) ∙ rw nine) in
-    let denied = callOf m call .machine in
+    let flagged = callOf m call .machine in
     let left = access-violated m right address nine in
-    let entry = entry-accepted denied (soundness-kept m call ∙ sound) (rw left below) in
-    let asked = question-answered (entered denied) in
-    let calm : isSound (entered denied) ≡ true = ap (λ r. isSound (r .machine)) (sym entry) ∙ soundness-kept denied Enter ∙ soundness-kept m call ∙ sound in
+    let entry = entry-accepted flagged (soundness-kept m call ∙ sound) (rw left below) in
+    let asked = question-answered (entered flagged) in
+    let calm : isSound (entered flagged) ≡ true = ap (λ r. isSound (r .machine)) (sym entry) ∙ soundness-kept flagged Enter ∙ soundness-kept m call ∙ sound in
     rw (entry, asked, calm, left) (refl, refl)

@@ -25,6 +25,7 @@ live context mask mode pending = record { context = context; mask = mask; mode =
 abbrev pub denied : ℕ → ℕ → ℕ → LastViolation
 denied program right address = Was (record { program = program; right = right; address = address })
 
+-- a machine by all its parts, the last violation first
 abbrev pub holding : LastViolation → ℕ → ℕ → List ℕ → Registers → ℕ → List Bool → ℕ → ℕ → List Program → Machine
 holding last pages exponent fields registers depth saved programs current table =
     record {
@@ -40,11 +41,11 @@ holding last pages exponent fields registers depth saved programs current table 
       violations = record { last = last };
     }
 
--- one that holds no violation
+-- one that has no last violation
 abbrev pub whole : ℕ → ℕ → List ℕ → Registers → ℕ → List Bool → ℕ → ℕ → List Program → Machine
 whole = holding Absent
 
--- an answer that reports nothing
+-- an answer that reports nothing, written out beside the definition `silent`
 abbrev pub gives : ℕ → Machine → Answered
 gives number machine = record { number = number; machine = machine; report = Nothing }
 

@@ -445,21 +445,12 @@ impl Machine {
         self.answered_with(number, fields)
     }
 
-    // The number of a call that is refused in user mode alone: the kernel's stores of the global context and the mask, and the question for the
-    // last violation.
-    fn register_store_number(self) -> u8
-        ensures { λ r. ⌜ r ≡ first ((inUserMode self ⇒ 7) ∷ []) ⌝ }
-    {
-        let registers = self.registers;
-        register_number(!registers.privileged())
-    }
-
     // The kernel's store of the global context, without the check for 1 (RULES 2.8).
     pub fn store_context_unchecked(mut self, bits: u16) -> Answered
         ensures { λ r. ⌜ r ≡ uncheckedOf self (Call.StoreContext bits) ⌝ }
     {
         let registers = self.registers;
-        let number = self.register_store_number();
+        let number = register_number(!registers.privileged());
         let after = registers.or_where(number == 0, registers.with_context(bits));
         self.registers = after;
         Answered {
@@ -488,7 +479,7 @@ impl Machine {
         ensures { λ r. ⌜ r ≡ uncheckedOf self (Call.StoreMask bits) ⌝ }
     {
         let registers = self.registers;
-        let number = self.register_store_number();
+        let number = register_number(!registers.privileged());
         let after = registers.or_where(number == 0, registers.with_mask(bits));
         self.registers = after;
         Answered {
@@ -545,7 +536,8 @@ impl Machine {
     pub fn ask_violation_unchecked(self) -> Answered
         ensures { λ r. ⌜ r ≡ uncheckedOf self Call.AskViolation ⌝ }
     {
-        let number = self.register_store_number();
+        let registers = self.registers;
+        let number = register_number(!registers.privileged());
         let report = self.violations.handed_out(number == 0);
         Answered {
             number,

@@ -132,6 +132,7 @@ pub fn field_number(badright: bool, badpage: bool, user: bool) -> u8
     0
 }
 
+// Of a call that is refused in user mode alone: the kernel's stores of the global context and the mask, and its question for the last violation.
 pub fn register_number(user: bool) -> u8
     ensures { λ r. ⌜ r ≡ first ((user ⇒ 7) ∷ []) ⌝ }
 {

@@ -61,7 +61,7 @@ records-cut = (refl, refl)
 abbrev small : ℕ → ℕ → Mode → Bool → List Bool → Machine
 small depth mask mode pending saved = whole 1 5 (1 ∷ 0 ∷ []) (live 1 mask mode pending) depth saved 1 0 (stored 1 1 User ∷ [])
 
--- steps: an unknown record is gives 18 and leaves the machine alone, sound or not; a call is made, with the check for 1 or without it
+-- steps: an unknown record is answered 18 and leaves the machine alone, sound or not; a call is made, with the check for 1 or without it
 pub steps-made :
     let m = small 0 1 User false (false ∷ []) in
     let deep = small 9 1 User false (false ∷ []) in

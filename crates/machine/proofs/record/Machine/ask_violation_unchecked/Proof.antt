@@ -11,8 +11,10 @@ returns : tie.Need-returns
 unfolding checksOf effectOf
 returns c =
     let start : tie.Start = (search) in
-    let numbering : tie.After-register-store-number = (search) in
-    same-answered (start .args .self) AskViolation (numbering .register-store-number .ensures) refl refl (c .handed-out .ensures)
+    let asking : tie.After-privileged = (search) in
+    let numbering : tie.After-register-number = (search) in
+    same-answered (start .args .self) AskViolation (rw (numbering .register-number .ensures, asking .privileged .ensures)) refl refl
+    (c .handed-out .ensures)
 
 pub ask-violation-unchecked-spec : {M : Type 1} → statement M
-ask-violation-unchecked-spec = tie.close (tie.spec (λ c κs. search needs) (λ c κs. search needs) returns)
+ask-violation-unchecked-spec = tie.close (tie.spec (λ c κs. search needs) (λ c κs. search needs) (λ c κs. search needs) returns)

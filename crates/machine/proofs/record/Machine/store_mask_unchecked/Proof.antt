@@ -11,10 +11,11 @@ returns : tie.Need-returns
 unfolding checksOf effectOf
 returns c =
     let start : tie.Start = (search) in
-    let numbering : tie.After-register-store-number = (search) in
+    let asking : tie.After-privileged = (search) in
+    let numbering : tie.After-register-number = (search) in
     let a = start .args in
-    registers-answered (a .self) (StoreMask (a .bits)) (numbering .register-store-number .ensures) refl refl refl
+    registers-answered (a .self) (StoreMask (a .bits)) (rw (numbering .register-number .ensures, asking .privileged .ensures)) refl refl refl
     (rw (c .or-where .ensures, c .before .with-mask .ensures))
 
 pub store-mask-unchecked-spec : {M : Type 1} → statement M
-store-mask-unchecked-spec = tie.close (tie.spec (λ c κs. search needs) (λ c κs. search needs) (λ c κs. search needs) returns)
+store-mask-unchecked-spec = tie.close (tie.spec (λ c κs. search needs) (λ c κs. search needs) (λ c κs. search needs) (λ c κs. search needs) returns)
