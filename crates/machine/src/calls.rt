@@ -35,13 +35,12 @@ use rules::domains::without_bit;
 use rules::registers::Mode;
 use rules::registers::replace_mask;
 ghost use mathlib.Core.Path.{_≡_};
-ghost use mathlib.Core.List.{[], _∷_};
 ghost use Prim.Native.Nat.{_-_};
 ghost use Rattle.rules.specs.Domains.{prevailing, withBit, withoutBit};
-ghost use Rattle.rules.specs.Refusals.{pick, first, _⇒_};
+ghost use Rattle.rules.specs.Refusals.{pick, first};
 ghost use Rattle.machine.specs.Machine.{withFields, withStack};
 ghost use Rattle.machine.specs.declared.record.Call.{Call};
-ghost use Rattle.machine.specs.Calls.{callOf, uncheckedOf, answerBy, ownNumberOf, keeping, changeCall, accessChecks, changeChecks, inUserMode, modeOf, silent};
+ghost use Rattle.machine.specs.Calls.{callOf, uncheckedOf, answerBy, ownNumberOf, keeping, changeCall, accessChecks, changeChecks, modeOf, silent};
 
 // The new value where a call was accepted, else the old one.
 fn chosen(done: bool, new: u16, old: u16) -> u16
