@@ -57,6 +57,15 @@ unmet k ((true ⇒ number) ∷ rest) h none =
 unmet zero ((false ⇒ number) ∷ rest) h none = refl
 unmet (suc k) ((false ⇒ number) ∷ rest) h none = unmet k rest (and-both (not (eqb number 0)) (refuses rest) h .1) none
 
+-- a choice between two that are the same, and what is made of a choice
+pick-same : {A : Type 0} (b : Bool) (x : A) → x ≡ pick b x x
+pick-same true x = refl
+pick-same false x = refl
+
+pick-under : {A B : Type 0} (f : A → B) (b : Bool) (x y : A) → f (pick b x y) ≡ pick b (f x) (f y)
+pick-under f true x y = refl
+pick-under f false x y = refl
+
 -- the machine after a call, by its three cases
 pub after-cases : (P : Machine → Type 0) (n : ℕ) (m : Machine) (call : Call) → (n ≡ 0 → P (effectOf m call))
     → (n ≡ 9 → P (violated m call)) → P m → P (after n m call)
@@ -128,19 +137,11 @@ module _ (m : Machine) (call : Call) where
   pub same-answered : {n : ℕ} {report : Report} → n ≡ ownNumberOf m call → avoids 9 (checksOf m call) ≡ true → effectOf m call ≡ m
       → report ≡ pick (eqb n 0) (reportOf m call) Nothing
       → _≡_ {A = Answered} (record { number = n; machine = m; report = report }) (uncheckedOf m call)
-  same-answered {n} number never effect reports = answered number never (rw effect (split (eqb n 0))) reports
-    where
-      split : (b : Bool) → m ≡ pick b m m
-      split true = refl
-      split false = refl
+  same-answered {n} number never effect reports = answered number never (rw effect (pick-same (eqb n 0) m)) reports
 
   -- a call that has nothing to report reports nothing, by whatever number
   pub unreported : (n : ℕ) → reportOf m call ≡ Nothing → Nothing ≡ pick (eqb n 0) (reportOf m call) Nothing
-  unreported n none = rw none (split (eqb n 0))
-    where
-      split : (b : Bool) → _≡_ {A = Report} Nothing (pick b Nothing Nothing)
-      split true = refl
-      split false = refl
+  unreported n none = rw none (pick-same (eqb n 0) Nothing)
 
   -- an answer by any number but 9, in its two cases: the call is done, or it is refused
   pub done : {n k : ℕ} {end : Machine} → n ≡ k → n ≡ 0 → end ≡ effectOf m call → reportOf m call ≡ Nothing → silent n end ≡ answerBy k m call
@@ -159,22 +160,17 @@ module _ (m : Machine) (call : Call) where
       → effectOf m call ≡ withRegisters new m → reportOf m call ≡ Nothing → r ≡ pick (eqb n 0) new (m .registers)
       → silent n (withRegisters r m) ≡ uncheckedOf m call
   registers-answered {n} {r} {new} number never effect reports changed =
-      answered number never (rw (changed, effect) (split (eqb n 0))) (unreported n reports)
-    where
-      split : (b : Bool) → withRegisters (pick b new (m .registers)) m ≡ pick b (withRegisters new m) m
-      split true = refl
-      split false = refl
+      answered number never (rw (changed, effect) (pick-under (λ (live : Registers). withRegisters live m) (eqb n 0) new (m .registers)))
+      (unreported n reports)
 
   -- one that changes the field at a place alone
   pub field-answered : {n : ℕ} {fields : List ℕ} (at new : ℕ) → n ≡ ownNumberOf m call → avoids 9 (checksOf m call) ≡ true
       → effectOf m call ≡ withFields (set (m .fields) at new) m → reportOf m call ≡ Nothing
       → fields ≡ pick (eqb n 0) (set (m .fields) at new) (m .fields) → silent n (withFields fields m) ≡ uncheckedOf m call
   field-answered {n} {fields} at new number never effect reports changed =
-      answered number never (rw (changed, effect) (split (eqb n 0))) (unreported n reports)
-    where
-      split : (b : Bool) → withFields (pick b (set (m .fields) at new) (m .fields)) m ≡ pick b (withFields (set (m .fields) at new) m) m
-      split true = refl
-      split false = refl
+      answered number never
+      (rw (changed, effect) (pick-under (λ (all : List ℕ). withFields all m) (eqb n 0) (set (m .fields) at new) (m .fields)))
+      (unreported n reports)
 
 -- the field at a place, stored where the call was accepted and stored back as it was where not
 stored : (l : List ℕ) (at : ℕ) (b : Bool) (new : ℕ) → set l at (pick b new (getD l at 0)) ≡ pick b (set l at new) l
@@ -232,18 +228,11 @@ pub access-answered : (m : Machine) (right address : ℕ) {n : ℕ} {r : Registe
     → silent n (withLast last (withRegisters r m)) ≡ uncheckedOf m (Access right address)
 unfolding uncheckedOf after effectOf
 access-answered m right address {n} {r} {last} number changed denied =
-    let call = Access right address in
-    rw (changed, denied, ← number)
-    (ap (λ (end : Machine). answerOf end) (kept (eqb n 9) ∙ done (eqb n 0) refl) ∙ ap (λ (report : Report). reporting report) (unreported m call n refl))
+    rw (changed, denied, ← number, ← unreported m (Access right address) n refl)
+    (ap (λ (end : Machine). silent n end) (kept (eqb n 9) ∙ done (eqb n 0) refl))
   where
     end : Bool → Machine
     end b = pick b (violated m (Access right address)) m
-
-    answerOf : Machine → Answered
-    answerOf = silent n
-
-    reporting : Report → Answered
-    reporting report = record { number = n; machine = after n m (Access right address); report = report }
 
     kept : (b : Bool)
         → withLast (pick b (deniedBy m (Access right address)) (m .violations .last))
