@@ -181,11 +181,11 @@ case before call = (before, call)
 
 pub twelve-asked :
     map asked starred
-    ≡ case [] (Access 0 256)
-    ∷ case [] (Access 1 256)
-    ∷ case [] (Access 1 0)
-    ∷ case [] (Access 0 767)
-    ∷ case [] (Access 0 768)
+    ≡ case [] (Access One 0 256)
+    ∷ case [] (Access One 1 256)
+    ∷ case [] (Access One 1 0)
+    ∷ case [] (Access One 0 767)
+    ∷ case [] (Access One 0 768)
     ∷ case [] (page 0 0 0)
     ∷ case [] (page 0 3 1)
     ∷ case [] (Revoke 0 (record { 0 = 0 }) (record { 0 = 3 }))
@@ -221,7 +221,7 @@ twelve-given = (refl, refl)
 -- a case that says what is not so: what it must give is what it says, and what the definitions give is something else; and one whose call reports
 pub cases-judged :
     let wrong : Case = record { before = SetMask 0x0007 ∷ []; call = Return; number = 99; machine = nothing } in
-    let asked : Case = record { before = Access 1 0 ∷ Enter ∷ []; call = AskViolation; number = 0; machine = nothing } in
+    let asked : Case = record { before = Access One 1 0 ∷ Enter ∷ []; call = AskViolation; number = 0; machine = nothing } in
     (outcome wrong ∷ expected wrong ∷ [] ≡ gives 7 (of-sample 9 7 false) ∷ gives 99 nothing ∷ [])
     × (outcome asked .report ≡ Denied (record { program = 0; right = 1; address = 0 }))
 unfolding callOf checksOf accessChecks effectOf entered after isSound loadOf loadChecks lengthTests kindTests shapeEntryTests shapeTests bodyTests describe machineOf sampleBytes

@@ -40,15 +40,15 @@ denied right address = Was (record { program = 0; right = right; address = addre
 unfoldable pub starred : List Case
 starred =
     -- READ of page 1 has domain 1, which is in the local context
-    row [] (Access READ 256) 0 sampleMachine
+    row [] (Access One READ 256) 0 sampleMachine
     -- and so has WRITE
-    ∷ row [] (Access WRITE 256) 0 sampleMachine
+    ∷ row [] (Access One WRITE 256) 0 sampleMachine
     -- WRITE of page 0 has no domain
-    ∷ row [] (Access WRITE 0) 9 (withLast (denied WRITE 0) (node sampleFields (live 0x0003 true)))
+    ∷ row [] (Access One WRITE 0) 9 (withLast (denied WRITE 0) (node sampleFields (live 0x0003 true)))
     -- READ of page 2 has domains 2 and 3, neither of them in the local context
-    ∷ row [] (Access READ 767) 9 (withLast (denied READ 767) (node sampleFields (live 0x0003 true)))
+    ∷ row [] (Access One READ 767) 9 (withLast (denied READ 767) (node sampleFields (live 0x0003 true)))
     -- memory ends before this address
-    ∷ row [] (Access READ 768) 3 sampleMachine
+    ∷ row [] (Access One READ 768) 3 sampleMachine
     -- domain 0 prevails, and its own level is not lower
     ∷ row [] (Grant READ (asPage 0) (asDomain 0)) 12 sampleMachine
     -- no domain prevails

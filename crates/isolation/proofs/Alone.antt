@@ -23,7 +23,7 @@ use Rattle.isolation.specs.Isolation.{Apart, InTable, Observation, conte
 use Rattle.isolation.proofs.Settled.{Started, Settled, settled-start, settled-command, begins, settled-turned, live-entry, live-context, other-unseen}
 
 is-command : (command : Command) → IsCommand (commandCall command)
-is-command (access right address) = an-access right address
+is-command (access width right address) = an-access width right address
 is-command (grant right page s) = a-change true right page s
 is-command (revoke right page s) = a-change false right page s
 is-command (setMask bits) = a-mask bits

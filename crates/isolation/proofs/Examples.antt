@@ -69,16 +69,16 @@ granted = 3 ∷ 0 ∷ 2 ∷ 2 ∷ 4 ∷ 4 ∷ []
 abbrev mixed : History
 mixed =
     record {
-      opening = grant 0 (asPage 0) (asDomain 1) ∷ access 1 0 ∷ setMask 0x0007 ∷ [];
+      opening = grant 0 (asPage 0) (asDomain 1) ∷ access One 1 0 ∷ setMask 0x0007 ∷ [];
       turns =
-          record { program = 1; commands = access 0 0 ∷ access 1 0 ∷ [] }
+          record { program = 1; commands = access One 0 0 ∷ access One 1 0 ∷ [] }
           ∷ record { program = 0; commands = revoke 0 (asPage 0) (asDomain 1) ∷ [] }
           ∷ record { program = 0; commands = [] }
           ∷ [];
     }
 
 pub mixed-own : ownTurns sample 0 mixed
-    ≡ (Grant 0 (asPage 0) (asDomain 1) ∷ Access 1 0 ∷ SetMask 0x0007 ∷ [])
+    ≡ (Grant 0 (asPage 0) (asDomain 1) ∷ Access One 1 0 ∷ SetMask 0x0007 ∷ [])
     ∷ (Enter ∷ Switch 0 ∷ Return ∷ Revoke 0 (asPage 0) (asDomain 1) ∷ [])
     ∷ (Enter ∷ Switch 0 ∷ Return ∷ [])
     ∷ []
@@ -148,7 +148,7 @@ not-apart-one apart =
 
 -- and two histories alike in program 1's turns differ for it: its read of page 0 is allowed, or is a violation
 abbrev reading : List Command → History
-reading opening = record { opening = opening; turns = record { program = 1; commands = access 0 0 ∷ [] } ∷ [] }
+reading opening = record { opening = opening; turns = record { program = 1; commands = access One 0 0 ∷ [] } ∷ [] }
 
 abbrev numbers : List Observation → List ℕ
 numbers = map (λ (o : Observation). o .number)
@@ -202,7 +202,7 @@ isolated-lone =
 abbrev itself : History
 itself =
     record {
-      opening = access 1 0 ∷ setMask 0x0007 ∷ [];
+      opening = access One 1 0 ∷ setMask 0x0007 ∷ [];
       turns = record { program = 0; commands = grant 0 (asPage 0) (asDomain 1) ∷ [] } ∷ [];
     }
 

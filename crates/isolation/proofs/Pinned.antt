@@ -62,11 +62,11 @@ by program commands = record { program = program; commands = commands }
 abbrev history : History
 history =
     record {
-      opening = grant 0 (record { 0 = 0 }) (record { 0 = 10 }) ∷ access 0 255 ∷ [];
+      opening = grant 0 (record { 0 = 0 }) (record { 0 = 10 }) ∷ access One 0 255 ∷ [];
       turns =
           by 1 (grant 1 (record { 0 = 1 }) (record { 0 = 15 }) ∷ setMask 0x0200 ∷ [])
-          ∷ by 2 (access 1 256 ∷ [])
-          ∷ by 1 (revoke 1 (record { 0 = 1 }) (record { 0 = 10 }) ∷ access 1 511 ∷ access 0 511 ∷ setMask 0 ∷ [])
+          ∷ by 2 (access One 1 256 ∷ [])
+          ∷ by 1 (revoke 1 (record { 0 = 1 }) (record { 0 = 10 }) ∷ access One 1 511 ∷ access One 0 511 ∷ setMask 0 ∷ [])
           ∷ [];
     }
 
@@ -76,7 +76,7 @@ pub table-asked :
 table-asked = refl
 
 abbrev opens : List Call
-opens = Grant 0 (record { 0 = 0 }) (record { 0 = 10 }) ∷ Access 0 255 ∷ []
+opens = Grant 0 (record { 0 = 0 }) (record { 0 = 10 }) ∷ Access One 0 255 ∷ []
 
 abbrev begins : ℕ → List Call → List Call
 begins program commands = Enter ∷ Switch program ∷ Return ∷ commands
@@ -85,17 +85,17 @@ abbrev second : List Call
 second = Grant 1 (record { 0 = 1 }) (record { 0 = 15 }) ∷ SetMask 0x0200 ∷ []
 
 abbrev fourth : List Call
-fourth = Revoke 1 (record { 0 = 1 }) (record { 0 = 10 }) ∷ Access 1 511 ∷ Access 0 511 ∷ SetMask 0 ∷ []
+fourth = Revoke 1 (record { 0 = 1 }) (record { 0 = 10 }) ∷ Access One 1 511 ∷ Access One 0 511 ∷ SetMask 0 ∷ []
 
 abbrev turn : ℕ → List Call → TurnCalls
 turn program calls = record { program = program; calls = calls }
 
 -- the turns as calls, and what is compared for each program
 pub turns-taken :
-    (turnsOf small history ≡ turn 0 opens ∷ turn 1 (begins 1 second) ∷ turn 2 (begins 2 (Access 1 256 ∷ [])) ∷ turn 1 (begins 1 fourth) ∷ [])
+    (turnsOf small history ≡ turn 0 opens ∷ turn 1 (begins 1 second) ∷ turn 2 (begins 2 (Access One 1 256 ∷ [])) ∷ turn 1 (begins 1 fourth) ∷ [])
     × (ownTurns small 0 history ≡ opens ∷ [])
     × (ownTurns small 1 history ≡ begins 1 second ∷ begins 1 fourth ∷ [])
-    × (ownTurns small 2 history ≡ begins 2 (Access 1 256 ∷ []) ∷ [])
+    × (ownTurns small 2 history ≡ begins 2 (Access One 1 256 ∷ []) ∷ [])
     × (ownTurns small 3 history ≡ [])
 turns-taken = (refl, refl, refl, refl, refl)
 
@@ -104,9 +104,9 @@ made program call = record { program = program; call = call }
 
 -- the calls of turns, in order, each with the program in whose turn it stands
 pub calls-made :
-    callsOf (turn 0 opens ∷ turn 2 (begins 2 (Access 1 256 ∷ [])) ∷ turn 1 [] ∷ turn 1 (SetMask 0 ∷ []) ∷ [])
-    ≡ made 0 (Grant 0 (record { 0 = 0 }) (record { 0 = 10 })) ∷ made 0 (Access 0 255) ∷ made 2 Enter ∷ made 2 (Switch 2) ∷ made 2 Return
-    ∷ made 2 (Access 1 256) ∷ made 1 (SetMask 0) ∷ []
+    callsOf (turn 0 opens ∷ turn 2 (begins 2 (Access One 1 256 ∷ [])) ∷ turn 1 [] ∷ turn 1 (SetMask 0 ∷ []) ∷ [])
+    ≡ made 0 (Grant 0 (record { 0 = 0 }) (record { 0 = 10 })) ∷ made 0 (Access One 0 255) ∷ made 2 Enter ∷ made 2 (Switch 2) ∷ made 2 Return
+    ∷ made 2 (Access One 1 256) ∷ made 1 (SetMask 0) ∷ []
 calls-made = refl
 
 -- the programs' global contexts, none past the table, and the rights of each to every page
@@ -131,7 +131,7 @@ pub history-observed :
     ∷ shown 8 (0x0200 ∷ 0 ∷ 0 ∷ 0x0200 ∷ []) (0x0200 ∷ 0 ∷ 0 ∷ 0x0200 ∷ [])
     ∷ [])))
     × (observed small 2 history ≡ replicate 4 (shown 0 (0x0700 ∷ 0 ∷ 0 ∷ 0x0600 ∷ []) (0x0700 ∷ 0 ∷ 0 ∷ 0x0600 ∷ [])))
-    × (observed small 2 (record { opening = []; turns = by 1 (revoke 1 (record { 0 = 1 }) (record { 0 = 10 }) ∷ []) ∷ by 2 (access 1 0 ∷ []) ∷ [] })
+    × (observed small 2 (record { opening = []; turns = by 1 (revoke 1 (record { 0 = 1 }) (record { 0 = 10 }) ∷ []) ∷ by 2 (access One 1 0 ∷ []) ∷ [] })
     ≡ replicate 3 (shown 0 (0x0300 ∷ 0 ∷ 0 ∷ 0x0200 ∷ []) (0x0300 ∷ 0 ∷ 0 ∷ 0x0200 ∷ []))
     ++ (shown 9 (0x0300 ∷ 0 ∷ 0 ∷ 0x0200 ∷ []) (0x0300 ∷ 0 ∷ 0 ∷ 0x0200 ∷ []) ∷ []))
     × (observed small 1 (record { opening = revoke 0 (record { 0 = 0 }) (record { 0 = 9 }) ∷ []; turns = by 1 [] ∷ [] })

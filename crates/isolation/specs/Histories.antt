@@ -16,7 +16,7 @@ pub data Command : Type 0 where
 
 -- RULES 4.1: a command is a call on the machine, so that the mask command is not the one on a lent record
 abbrev pub commandCall : Command → Call
-commandCall (access right address) = Access right address
+commandCall (access width right address) = Access width right address
 commandCall (grant right page s) = Grant right page s
 commandCall (revoke right page s) = Revoke right page s
 commandCall (setMask bits) = SetMask bits

@@ -22,7 +22,7 @@ pub calls-for :
     ∷ RevokeRight 2 (record { 0 = 4 }) (record { 0 = 5 })
     ∷ ReplaceMask 9
     ∷ [])
-    ≡ Access 0 7 ∷ Access 1 8 ∷ Grant 3 (record { 0 = 2 }) (record { 0 = 3 }) ∷ Revoke 2 (record { 0 = 4 }) (record { 0 = 5 }) ∷ SetMask 9 ∷ []
+    ≡ Access One 0 7 ∷ Access One 1 8 ∷ Grant 3 (record { 0 = 2 }) (record { 0 = 3 }) ∷ Revoke 2 (record { 0 = 4 }) (record { 0 = 5 }) ∷ SetMask 9 ∷ []
 calls-for = refl
 
 -- READ of the page is held by domain 0, WRITE by none; program 0 is current, and what is stored for it is older than what is live

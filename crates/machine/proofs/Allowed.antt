@@ -1,4 +1,5 @@
--- When an access is allowed: exactly where none of its conditions is met. The page of the address is said by its bounds, not by a division.
+-- When an access of either width is allowed: exactly where none of its conditions is met. The page of each byte that it touches is said by its bounds,
+-- not by a division.
 use Prim.Native.Nat.{ℕ, suc, _+_, _*_, _/_, _^_, _≤_, _<_}
 use mathlib.Core.Path.{_≡_, refl}
 use mathlib.Core.Bool.{Bool, true, false, not}
@@ -13,50 +14,56 @@ use native.Mathlib.Omega.{arith}
 use Rattle.rules.specs.Registers.{localContext}
 use Rattle.rules.specs.Refusals.{Check, _⇒_, first, pick}
 use Rattle.machine.specs.Machine.{isRight, isSound, memorySize, fieldOf}
-use Rattle.machine.specs.Calls.{accessChecks, checksOf, inPrivilegedMode, numberOf}
+use Rattle.machine.specs.Calls.{accessChecks, checksOf, inPrivilegedMode, isDenied, isOutsideMemory, numberOf, touched, any}
 use Rattle.machine.specs.declared.record.Machine.{Machine}
+use Rattle.machine.specs.declared.record.Width.{Width}
 use Rattle.machine.specs.declared.record.Call.the-variants.{Access}
 use Rattle.machine.proofs.Answers.{accepted, metAt, unmet}
+use Rattle.machine.proofs.Touched.{Touches, none-meets, none-met}
 
--- on a page that is there: in privileged mode, or with the flag clear where the field of that right to the page shares a domain with the local
--- context
-pub record Allowed (m : Machine) (right address : ℕ) : Type 0 where
-  pub right-known : right ≤ 1
+-- a byte on a page that is there
+pub record Paged (m : Machine) (byte : ℕ) : Type 0 where
   pub page : ℕ
   pub page-counted : page < m .pages
-  pub page-starts : page * 2 ^ m .exponent ≤ address
-  pub page-ends : address < page * 2 ^ m .exponent + 2 ^ m .exponent
+  pub page-starts : page * 2 ^ m .exponent ≤ byte
+  pub page-ends : byte < page * 2 ^ m .exponent + 2 ^ m .exponent
+
+-- every byte on a page that is there: in privileged mode, or with the flag clear where the field of that right to each such page shares a domain with
+-- the local context
+pub record Allowed (m : Machine) (width : Width) (right address : ℕ) : Type 0 where
+  pub right-known : right ≤ 1
+  pub paged : (byte : ℕ) → Touches width address byte → Paged m byte
   pub by-virtue :
       (inPrivilegedMode m ≡ true)
       ⊎ ((inPrivilegedMode m ≡ false) × (m .registers .pending ≡ false)
-      × (eqb (bitAnd (fieldOf m right page) (localContext (m .registers))) 0 ≡ false))
+      × ((byte : ℕ) (touches : Touches width address byte)
+      → eqb (bitAnd (fieldOf m right (paged byte touches .page)) (localContext (m .registers))) 0 ≡ false))
 
-module _ (m : Machine) (right address : ℕ) where
+module _ (m : Machine) (width : Width) (right address : ℕ) where
   abbrev size : ℕ
   size = 2 ^ m .exponent
-
-  -- the field of that right to a page shares no domain with the local context
-  abbrev apart : ℕ → Bool
-  apart page = eqb (bitAnd (fieldOf m right page) (localContext (m .registers))) 0
 
   -- the conditions, by the mode
   abbrev checks : Bool → List Check
   checks privileged =
       (not (isRight right) ⇒ 2)
-      ∷ (leb (memorySize m) address ⇒ 3)
-      ∷ pick privileged [] ((m .registers .pending ⇒ 8) ∷ (apart (address / size) ⇒ 9) ∷ [])
+      ∷ (any (isOutsideMemory m) (touched width address) ⇒ 3)
+      ∷ pick privileged [] ((m .registers .pending ⇒ 8) ∷ (any (isDenied m right) (touched width address) ⇒ 9) ∷ [])
 
-  pub allowed : numberOf m (Access right address) ≡ 0 → Allowed m right address
+  pub allowed : numberOf m (Access width right address) ≡ 0 → Allowed m width right address
   unfolding checksOf accessChecks
   allowed h =
-      let none = accepted m (Access right address) h .1 in
+      let none = accepted m (Access width right address) h .1 in
+      let inside = none-meets (isOutsideMemory m) width address (met (inPrivilegedMode m) 1 none) in
       record {
         right-known = leb-true right 1 (not-false _ (met (inPrivilegedMode m) 0 none));
-        page = address / size;
-        page-counted =
-            div-lt-iff-lt-mul (pow-pos (m .exponent)) .1 (leb-false (memorySize m) address (met (inPrivilegedMode m) 1 none));
-        page-starts = div-mul-le-self address size;
-        page-ends = lt-div-mul-add (pow-pos (m .exponent));
+        paged =
+            λ byte touches. record {
+              page = byte / size;
+              page-counted = div-lt-iff-lt-mul (pow-pos (m .exponent)) .1 (leb-false (memorySize m) byte (inside byte touches));
+              page-starts = div-mul-le-self byte size;
+              page-ends = lt-div-mul-add (pow-pos (m .exponent));
+            };
         by-virtue = virtue (inPrivilegedMode m) refl none;
       }
     where
@@ -65,17 +72,30 @@ module _ (m : Machine) (right address : ℕ) where
       met false k none = unmet k (checks false) refl none
 
       virtue : (b : Bool) → inPrivilegedMode m ≡ b → first (checks b) ≡ 0
-          → (inPrivilegedMode m ≡ true) ⊎ ((inPrivilegedMode m ≡ false) × (m .registers .pending ≡ false) × (apart (address / size) ≡ false))
+          → (inPrivilegedMode m ≡ true)
+          ⊎ ((inPrivilegedMode m ≡ false) × (m .registers .pending ≡ false)
+          × ((byte : ℕ) → Touches width address byte → isDenied m right byte ≡ false))
       virtue true e none = inl e
-      virtue false e none = inr (e, met false 2 none, met false 3 none)
+      virtue false e none = inr (e, met false 2 none, none-meets (isDenied m right) width address (met false 3 none))
 
-  pub allows : isSound m ≡ true → Allowed m right address → numberOf m (Access right address) ≡ 0
+  pub allows : isSound m ≡ true → Allowed m width right address → numberOf m (Access width right address) ≡ 0
   unfolding checksOf accessChecks
   allows sound a =
-      let above = le-div-iff-mul-le (pow-pos (m .exponent)) .1 (a .page-starts) in
-      let ends : address < suc (a .page) * size = rw (suc-mul (a .page) size) (a .page-ends) in
-      let below = div-lt-iff-lt-mul (pow-pos (m .exponent)) .1 ends in
-      let place : address / size ≡ a .page = omega (arith, above, below) in
-      let within : address < memorySize m = div-lt-iff-lt-mul (pow-pos (m .exponent)) .0 (omega (arith, place, a .page-counted)) in
-      rw (sound, le-leb right 1 (a .right-known), lt-leb (memorySize m) address within, place)
-      (⊎-elim (λ privileged. rw privileged) (λ user. rw (user .0, user .1, user .2)) (a .by-virtue))
+      let outside = none-met (isOutsideMemory m) width address (λ byte touches. within (a .paged byte touches)) in
+      rw (sound, le-leb right 1 (a .right-known), outside)
+      (⊎-elim (λ privileged. rw privileged)
+      (λ user.
+      let denied = none-met (isDenied m right) width address (λ byte touches. rw (place (a .paged byte touches)) (user .2 byte touches)) in
+      rw (user .0, user .1, denied)) (a .by-virtue))
+    where
+      place : {byte : ℕ} (on : Paged m byte) → byte / size ≡ on .page
+      place {byte} on =
+          let above = le-div-iff-mul-le (pow-pos (m .exponent)) .1 (on .page-starts) in
+          let ends : byte < suc (on .page) * size = rw (suc-mul (on .page) size) (on .page-ends) in
+          let below = div-lt-iff-lt-mul (pow-pos (m .exponent)) .1 ends in
+          omega (arith, above, below)
+
+      within : {byte : ℕ} → Paged m byte → leb (memorySize m) byte ≡ false
+      within {byte} on =
+          let counted : byte / size < m .pages = rw (place on) (on .page-counted) in
+          lt-leb (memorySize m) byte (div-lt-iff-lt-mul (pow-pos (m .exponent)) .0 counted)

@@ -22,6 +22,7 @@ use Rattle.machine.specs.declared.record.LastViolation.{LastViolation}
 use Rattle.machine.specs.declared.record.Report.{Report}
 use Rattle.machine.specs.declared.record.Report.the-variants.{Nothing}
 use Rattle.machine.specs.declared.record.Answered.{Answered}
+use Rattle.machine.specs.declared.record.Width.{Width}
 use Rattle.machine.specs.declared.record.Call.{Call}
 use Rattle.machine.specs.declared.record.Call.the-variants.{Access, Enter, Return, Switch}
 use Rattle.machine.proofs.Sound.{and-both, sound-facts}
@@ -222,22 +223,22 @@ module _ (m : Machine) (right : ℕ) (page : Page) (s : Domain) where
       (change-effect granting ∙ rw (← place, ← read)) (change-reports granting) chosen written
 
 -- an access changes nothing but the flag and the last violation, and these where it answers 9
-pub access-answered : (m : Machine) (right address : ℕ) {n : ℕ} {r : Registers} {last : LastViolation} → n ≡ ownNumberOf m (Access right address)
+pub access-answered : (m : Machine) (width : Width) (right address : ℕ) {n : ℕ} {r : Registers} {last : LastViolation} → n ≡ ownNumberOf m (Access width right address)
     → r ≡ pick (eqb n 9) (withPending true (m .registers)) (m .registers)
-    → last ≡ pick (eqb n 9) (deniedBy m (Access right address)) (m .violations .last)
-    → silent n (withLast last (withRegisters r m)) ≡ uncheckedOf m (Access right address)
+    → last ≡ pick (eqb n 9) (deniedBy m (Access width right address)) (m .violations .last)
+    → silent n (withLast last (withRegisters r m)) ≡ uncheckedOf m (Access width right address)
 unfolding uncheckedOf after effectOf
-access-answered m right address {n} {r} {last} number changed denied =
-    rw (changed, denied, ← number, ← unreported m (Access right address) n refl)
+access-answered m width right address {n} {r} {last} number changed denied =
+    rw (changed, denied, ← number, ← unreported m (Access width right address) n refl)
     (ap (λ (end : Machine). silent n end) (kept (eqb n 9) ∙ done (eqb n 0) refl))
   where
     end : Bool → Machine
-    end b = pick b (violated m (Access right address)) m
+    end b = pick b (violated m (Access width right address)) m
 
     kept : (b : Bool)
-        → withLast (pick b (deniedBy m (Access right address)) (m .violations .last))
+        → withLast (pick b (deniedBy m (Access width right address)) (m .violations .last))
         (withRegisters (pick b (withPending true (m .registers)) (m .registers)) m)
-        ≡ pick b (violated m (Access right address)) m
+        ≡ pick b (violated m (Access width right address)) m
     kept true = refl
     kept false = refl
 

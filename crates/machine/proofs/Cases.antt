@@ -16,6 +16,7 @@ use Rattle.machine.specs.Machine.{isSound, noProgram, withRegisters, wit
 use Rattle.machine.specs.Calls.{asPage, asDomain, callOf, checksOf, accessChecks, changeChecks, effectOf, entered, returned, switched, after}
 use Rattle.machine.specs.declared.record.Machine.{Machine}
 use Rattle.machine.specs.declared.record.Program.{Program}
+use Rattle.machine.specs.declared.record.Width.the-variants.{One}
 use Rattle.machine.specs.declared.record.Call.{Call}
 use Rattle.machine.specs.declared.record.Call.the-variants.{Access, Grant, Revoke, SetMask, Enter, Return, Switch, StoreField, StoreContext, StoreMask, StoreMode, AskViolation}
 use Rattle.machine.proofs.Written.{stored, live, denied, whole, Answers, both}
@@ -54,7 +55,7 @@ node depth mode pending = saving mode pending depth (stack User User)
 -- a machine that is not sound: 1 before 2, 6, 13, 7 and 17
 pub not-sound-first :
     Answers callOf (node 9 User false)
-    ((Access 2 0, 1)
+    ((Access One 2 0, 1)
     ∷ both 2 0 0 1
     ((SetMask 0, 1)
     ∷ (Enter, 1)
@@ -73,12 +74,12 @@ not-sound-first = refl
 -- context has domains 0 and 1.
 pub user-order :
     Answers callOf (node 0 User false)
-    ((Access 2 768, 2)
-    ∷ (Access 0 768, 3)
-    ∷ (Access 1 767, 9)
-    ∷ (Access 0 255, 0)
-    ∷ (Access 0 256, 0)
-    ∷ (Access 0 512, 9)
+    ((Access One 2 768, 2)
+    ∷ (Access One 0 768, 3)
+    ∷ (Access One 1 767, 9)
+    ∷ (Access One 0 255, 0)
+    ∷ (Access One 0 256, 0)
+    ∷ (Access One 0 512, 9)
     ∷ both 2 3 3 2
     (both 0 3 16 4
     (both 1 0 16 5
@@ -105,10 +106,10 @@ user-order = refl
 -- user mode, the flag set: 8 also where the access would be allowed
 pub pending-order :
     Answers callOf (node 0 User true)
-    ((Access 2 0, 2)
-    ∷ (Access 1 768, 3)
-    ∷ (Access 1 0, 8)
-    ∷ (Access 0 0, 8)
+    ((Access One 2 0, 2)
+    ∷ (Access One 1 768, 3)
+    ∷ (Access One 1 0, 8)
+    ∷ (Access One 0 0, 8)
     ∷ both 0 0 16 5
     (both 1 0 0 8
     (both 0 0 15 8
@@ -119,9 +120,9 @@ pending-order = refl
 -- privileged mode at depth 0: an access that no field allows is allowed, with 2 and 3 all the same
 pub privileged-order :
     Answers callOf (node 0 Privileged false)
-    ((Access 1 0, 0)
-    ∷ (Access 2 0, 2)
-    ∷ (Access 1 768, 3)
+    ((Access One 1 0, 0)
+    ∷ (Access One 2 0, 2)
+    ∷ (Access One 1 768, 3)
     ∷ both 0 0 16 5
     (both 1 0 0 6
     (both 0 0 15 6
@@ -152,7 +153,7 @@ depth-order = (refl, refl, refl)
 -- the prevailing domain is found in the whole field: page 2 is held by domains 2 and 3 for READ, a local context of domain 3 alone
 -- does not let it pass the right on, and one of domain 2 does
 pub whole-field :
-    (Answers callOf (withRegisters (live 12 8 User false) (node 0 User false)) ((Access 0 512, 0) ∷ both 0 2 4 11 []))
+    (Answers callOf (withRegisters (live 12 8 User false) (node 0 User false)) ((Access One 0 512, 0) ∷ both 0 2 4 11 []))
     × (Answers callOf (withRegisters (live 12 4 User false) (node 0 User false)) (both 0 2 4 0 (both 0 2 2 12 (both 0 2 15 0 []))))
 unfolding callOf checksOf accessChecks changeChecks isSound prevailing domainBit trailingZeros
 whole-field = (refl, refl)
@@ -160,7 +161,7 @@ whole-field = (refl, refl)
 -- pages of 32 bytes: the page of an address goes by the page size
 pub small-pages :
     Answers callOf (paged 5 figure (live 7 3 User false) 0 (stack User User) 0 (table (stored 7 3 User) (stored 8 65535 User)))
-    ((Access 0 31, 0) ∷ (Access 0 64, 9) ∷ (Access 0 95, 9) ∷ (Access 0 96, 3) ∷ [])
+    ((Access One 0 31, 0) ∷ (Access One 0 64, 9) ∷ (Access One 0 95, 9) ∷ (Access One 0 96, 3) ∷ [])
 unfolding callOf checksOf accessChecks isSound
 small-pages = refl
 
@@ -175,9 +176,9 @@ user fields registers = written fields registers 0 (stack User User) 0 (table (s
 pub user-effects :
     let before = user figure (live 7 3 User false) in
     Effects
-    ((before, Access 0 0, before)
-    ∷ (before, Access 1 0, withLast (denied 0 1 0) (user figure (live 7 3 User true)))
-    ∷ (before, Access 0 600, withLast (denied 0 0 600) (user figure (live 7 3 User true)))
+    ((before, Access One 0 0, before)
+    ∷ (before, Access One 1 0, withLast (denied 0 1 0) (user figure (live 7 3 User true)))
+    ∷ (before, Access One 0 600, withLast (denied 0 0 600) (user figure (live 7 3 User true)))
     ∷ (before, Grant 0 (asPage 1) (asDomain 4), user (fieldsOf 9 0 26 2 12 4) (live 7 3 User false))
     ∷ (before, Grant 1 (asPage 1) (asDomain 3), user (fieldsOf 9 0 10 10 12 4) (live 7 3 User false))
     ∷ (before, Grant 0 (asPage 1) (asDomain 3), before)

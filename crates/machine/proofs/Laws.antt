@@ -6,23 +6,24 @@ use mathlib.Core.Bool.{Bool, true, false, not, _||_, true≢false}
 use mathlib.Core.List.{List, [], _∷_}
 use native.Mathlib.Omega.{arith}
 use borrow.Author.Tests.{eqb-false, ne-eqb, leb-true, leb-false, not-false, le-leb, lt-ltb}
-use lib.Bits.{bitAnd}
-use lib.Dec.{leb, eqb}
+use lib.Dec.{eqb}
 use lib.ListN.{getD}
-use Rattle.rules.specs.Registers.{localContext, withPending}
+use Rattle.rules.specs.Registers.{withPending}
 use Rattle.rules.specs.Refusals.{Check, _⇒_, first, pick}
-use Rattle.machine.specs.Machine.{isRight, isSound, memorySize, fieldOf, violationFits, noProgram, withRegisters, withLast}
-use Rattle.machine.specs.Calls.{callOf, answerBy, silent, checksOf, accessChecks, changeChecks, effectOf, entered, returned, switched, deniedBy, handedOut, inPrivilegedMode, inUserMode, numberOf, pageOf, after, violated}
+use Rattle.machine.specs.Machine.{isRight, isSound, memorySize, violationFits, noProgram, withRegisters, withLast}
+use Rattle.machine.specs.Calls.{callOf, answerBy, silent, checksOf, accessChecks, changeChecks, effectOf, entered, returned, switched, deniedBy, handedOut, inPrivilegedMode, inUserMode, isDenied, isOutsideMemory, numberOf, touched, any, after, violated}
 use Rattle.machine.specs.Listed.{isIn, listed, ownNumbers, soundNumbers}
 use Rattle.machine.specs.declared.record.Machine.{Machine}
 use Rattle.machine.specs.declared.record.LastViolation.{LastViolation}
 use Rattle.machine.specs.declared.record.LastViolation.the-variants.{Was}
 use Rattle.machine.specs.declared.record.Report.the-variants.{Nothing}
+use Rattle.machine.specs.declared.record.Width.{Width}
 use Rattle.machine.specs.declared.record.Call.{Call}
 use Rattle.machine.specs.declared.record.Call.the-variants.{Access, Grant, Revoke, SetMask, Enter, Return, Switch, StoreField, StoreContext, StoreMask, StoreMode, AskViolation}
 use Rattle.machine.proofs.Sound.{Sound, sound-facts, moved-sound}
 use Rattle.machine.proofs.Answers.{first-avoids, not-nine, after-cases, after-both}
 use Rattle.machine.proofs.Told.{told, shape, first-within}
+use Rattle.machine.proofs.Touched.{Touches, first-touched, none-meets}
 
 own-number : (m : Machine) (call : Call) → isIn (first (checksOf m call)) (0 ∷ ownNumbers call) ≡ true
 own-number m call = first-within (0 ∷ ownNumbers call) (checksOf m call) (told m call .numbers .own)
@@ -81,13 +82,14 @@ violation-in-user-mode m call nine = split (inPrivilegedMode m) refl
         (first-avoids 9 ((not (isSound m) ⇒ 1) ∷ checksOf m call) (told m call .numbers .no-nine e)) nine)
     split false e = refl
 
--- RULES 3.2, 9.1: a violation is answered to an access alone, of a right that is one, to an address in memory
+-- RULES 3.2, 9.1: a violation is answered to an access alone, of a right that is one, to bytes in memory
 pub record DeniedAccess (m : Machine) (call : Call) : Type 0 where
+  pub width : Width
   pub right : ℕ
   pub address : ℕ
-  pub accessed : call ≡ Access right address
+  pub accessed : call ≡ Access width right address
   pub right-known : right ≤ 1
-  pub inside : address < m .pages * 2 ^ m .exponent
+  pub inside : (byte : ℕ) → Touches width address byte → byte < m .pages * 2 ^ m .exponent
 
 reaches-nine : (b₁ b₂ b₃ : Bool) (rest : List Check) → first ((b₁ ⇒ 1) ∷ (b₂ ⇒ 2) ∷ (b₃ ⇒ 3) ∷ rest) ≡ 9 → (b₂ ≡ false) × (b₃ ≡ false)
 reaches-nine true b₂ b₃ rest nine = absurd (omega arith)
@@ -97,16 +99,17 @@ reaches-nine false false false rest nine = (refl, refl)
 
 pub violation-denies : (m : Machine) (call : Call) → callOf m call .number ≡ 9 → DeniedAccess m call
 unfolding callOf checksOf accessChecks changeChecks
-violation-denies m (Access right address) nine =
-    let apart = eqb (bitAnd (fieldOf m right (pageOf m address)) (localContext (m .registers))) 0 in
-    let user = pick (inPrivilegedMode m) [] ((m .registers .pending ⇒ 8) ∷ (apart ⇒ 9) ∷ []) in
-    let passed = reaches-nine (not (isSound m)) (not (isRight right)) (leb (memorySize m) address) user nine in
+violation-denies m (Access width right address) nine =
+    let bytes = touched width address in
+    let user = pick (inPrivilegedMode m) [] ((m .registers .pending ⇒ 8) ∷ (any (isDenied m right) bytes ⇒ 9) ∷ []) in
+    let passed = reaches-nine (not (isSound m)) (not (isRight right)) (any (isOutsideMemory m) bytes) user nine in
     record {
+      width = width;
       right = right;
       address = address;
       accessed = refl;
       right-known = leb-true right 1 (not-false _ (passed .0));
-      inside = leb-false (memorySize m) address (passed .1);
+      inside = λ byte t. leb-false (memorySize m) byte (none-meets (isOutsideMemory m) width address (passed .1) byte t);
     }
 violation-denies m (Grant right page s) nine = absurd (not-nine m (Grant right page s) refl nine)
 violation-denies m (Revoke right page s) nine = absurd (not-nine m (Revoke right page s) refl nine)
@@ -121,11 +124,11 @@ violation-denies m (StoreMode mode) nine = absurd (not-nine m (StoreMode mode) r
 violation-denies m AskViolation nine = absurd (not-nine m AskViolation refl nine)
 
 -- RULES 3.3: it sets the flag and the last violation: the current program was denied that right to that address. Nothing else changes.
-pub access-violated : (m : Machine) (right address : ℕ) → callOf m (Access right address) .number ≡ 9
-    → callOf m (Access right address) .machine
+pub access-violated : (m : Machine) (width : Width) (right address : ℕ) → callOf m (Access width right address) .number ≡ 9
+    → callOf m (Access width right address) .machine
     ≡ withLast (Was (record { program = m .current; right = right; address = address })) (withRegisters (withPending true (m .registers)) m)
 unfolding callOf after
-access-violated m right address nine = rw nine
+access-violated m width right address nine = rw nine
 
 -- RULES 2.12: a call that lists 7, which are return, switch, the kernel's stores and the question for the last violation, is accepted in privileged mode alone
 pub kernel-alone : (m : Machine) (call : Call) → isIn 7 (ownNumbers call) ≡ true → numberOf m call ≡ 0 → inPrivilegedMode m ≡ true
@@ -139,7 +142,7 @@ soundness-kept m call = split (isSound m) refl
     denied-fits : numberOf m call ≡ 9 → Sound m → violationFits (m .programs) (memorySize m) (deniedBy m call) ≡ true
     denied-fits nine s =
         let v = violation-denies m call nine in
-        rw (v .accessed, lt-ltb _ _ (s .current-below), le-leb _ _ (v .right-known), lt-ltb _ _ (v .inside))
+        rw (v .accessed, lt-ltb _ _ (s .current-below), le-leb _ _ (v .right-known), lt-ltb _ _ (v .inside (v .address) (first-touched (v .width) (v .address))))
 
     violated-sound : isSound m ≡ true → numberOf m call ≡ 9 → isSound (violated m call) ≡ true
     violated-sound h nine =
@@ -170,7 +173,7 @@ aside-last : (m : Machine) (last other : LastViolation) (call : Call)
     → (checksOf (withLast last m) call ≡ checksOf m call)
     × (withLast other (effectOf (withLast last m) call) ≡ withLast other (effectOf m call))
 unfolding checksOf accessChecks changeChecks effectOf entered returned switched
-aside-last m last other (Access right address) = (refl, refl)
+aside-last m last other (Access width right address) = (refl, refl)
 aside-last m last other (Grant right page s) = (refl, refl)
 aside-last m last other (Revoke right page s) = (refl, refl)
 aside-last m last other (SetMask bits) = (refl, refl)

@@ -15,6 +15,7 @@ use Rattle.machine.specs.declared.record.Report.the-variants.{Nothing}
 use Rattle.machine.specs.declared.record.Report.{Report}
 use Rattle.machine.specs.declared.record.Answered.{Answered}
 use Rattle.machine.specs.declared.record.Call.{Call}
+use Rattle.machine.specs.declared.record.Width.{Width}
 use Rattle.machine.specs.declared.record.Call.the-variants.{Access, StoreField}
 use Rattle.machine.proofs.Answers.{avoids, after-cases, after-both, own-not-nine, unreported, change-avoids, change-effect, change-reports}
 
@@ -63,15 +64,15 @@ unfolding checksOf effectOf
 store-alone m right page bits = fields-alone m (StoreField right page bits) refl refl refl
 
 -- an access leaves the fields as they were, and the whole machine but its flag and its last violation
-pub access-keeps : (m : Machine) (right address : ℕ) → uncheckedOf m (Access right address) .machine .fields ≡ m .fields
+pub access-keeps : (m : Machine) (width : Width) (right address : ℕ) → uncheckedOf m (Access width right address) .machine .fields ≡ m .fields
 unfolding uncheckedOf effectOf
-access-keeps m right address =
-    after-cases (λ end. end .fields ≡ m .fields) (ownNumberOf m (Access right address)) m (Access right address) (λ _. refl) (λ _. refl) refl
+access-keeps m width right address =
+    after-cases (λ end. end .fields ≡ m .fields) (ownNumberOf m (Access width right address)) m (Access width right address) (λ _. refl) (λ _. refl) refl
 
-pub access-own : (m : Machine) (right address : ℕ) → keeping m (uncheckedOf m (Access right address)) ≡ uncheckedOf m (Access right address)
+pub access-own : (m : Machine) (width : Width) (right address : ℕ) → keeping m (uncheckedOf m (Access width right address)) ≡ uncheckedOf m (Access width right address)
 unfolding uncheckedOf effectOf
-access-own m right address =
-    let call = Access right address in
+access-own m width right address =
+    let call = Access width right address in
     let answer = uncheckedOf m call in
     ap (λ (end : Machine). record { number = answer .number; machine = end; report = answer .report })
     (after-cases (λ end. withLent (m .fields) (m .saved) end ≡ end) (answer .number) m call (λ _. refl) (λ _. refl) refl)

@@ -21,6 +21,7 @@ use Rattle.machine.specs.declared.record.LastViolation.{LastViolation}
 use Rattle.machine.specs.declared.record.LastViolation.the-variants.{Absent}
 use Rattle.machine.specs.declared.record.Report.the-variants.{Nothing, Denied}
 use Rattle.machine.specs.declared.record.Answered.{Answered}
+use Rattle.machine.specs.declared.record.Width.the-variants.{One}
 use Rattle.machine.specs.declared.record.Call.{Call}
 use Rattle.machine.specs.declared.record.Call.the-variants.{Access, Grant, Revoke, SetMask, Enter, Return, Switch, StoreField, StoreContext, StoreMask, StoreMode, AskViolation}
 use Rattle.machine.proofs.Written.{stored, live, denied, holding, whole, gives, Answers, both}
@@ -64,14 +65,14 @@ places = (refl, refl, refl, refl)
 
 pub last-page-order :
     (Answers callOf (wide (last 0x0300 0x8200) (live 0x0300 0xFFFF User false))
-    ((Access 0 65535, 0)
-    ∷ (Access 1 65024, 0)
-    ∷ (Access 0 65023, 9)
-    ∷ (Access 1 65023, 9)
-    ∷ (Access 0 65536, 3)
-    ∷ (Access 1 4294967295, 3)
-    ∷ (Access 3 65535, 2)
-    ∷ (Access 255 65536, 2)
+    ((Access One 0 65535, 0)
+    ∷ (Access One 1 65024, 0)
+    ∷ (Access One 0 65023, 9)
+    ∷ (Access One 1 65023, 9)
+    ∷ (Access One 0 65536, 3)
+    ∷ (Access One 1 4294967295, 3)
+    ∷ (Access One 3 65535, 2)
+    ∷ (Access One 255 65536, 2)
     ∷ both 255 128 16 2
     (both 3 127 9 2
     (both 1 128 16 4
@@ -94,9 +95,9 @@ pub last-page-order :
     ∷ (StoreMode 255, 17)
     ∷ []))))))))))))))))))
     × (Answers callOf (wide (last 0x0300 0x8200) (live 0x8100 0xFFFF User false))
-    ((Access 1 65535, 0) ∷ both 0 127 9 0 (both 1 127 15 11 [])))
-    × (Answers callOf (wide (last 0x0300 0x8200) (live 0xFFFF 0x0200 User false)) ((Access 0 65535, 0) ∷ both 0 127 15 11 (both 1 127 15 0 [])))
-    × (Answers callOf (wide (last 0x0300 0x8200) (live 0x0200 0xFFFF User false)) ((Access 0 65535, 0) ∷ both 0 127 15 11 (both 1 127 15 0 [])))
+    ((Access One 1 65535, 0) ∷ both 0 127 9 0 (both 1 127 15 11 [])))
+    × (Answers callOf (wide (last 0x0300 0x8200) (live 0xFFFF 0x0200 User false)) ((Access One 0 65535, 0) ∷ both 0 127 15 11 (both 1 127 15 0 [])))
+    × (Answers callOf (wide (last 0x0300 0x8200) (live 0x0200 0xFFFF User false)) ((Access One 0 65535, 0) ∷ both 0 127 15 11 (both 1 127 15 0 [])))
 unfolding callOf checksOf accessChecks changeChecks isSound prevailing domainBit trailingZeros
 last-page-order = (refl, refl, refl, refl)
 
@@ -109,9 +110,9 @@ pub last-page-outcomes :
     let m = wide (last 0x0300 0x8200) r in
     let page : Page = record { 0 = 127 } in
     Outcomes callOf
-    ((m, Access 0 65535, 0, m)
-    ∷ (m, Access 1 65023, 9, withLast (denied 7 1 65023) (wide (last 0x0300 0x8200) (live 0x0300 0xFFFF User true)))
-    ∷ (m, Access 1 65536, 3, m)
+    ((m, Access One 0 65535, 0, m)
+    ∷ (m, Access One 1 65023, 9, withLast (denied 7 1 65023) (wide (last 0x0300 0x8200) (live 0x0300 0xFFFF User true)))
+    ∷ (m, Access One 1 65536, 3, m)
     ∷ (m, Grant 0 page (record { 0 = 15 }), 0, wide (last 0x8300 0x8200) r)
     ∷ (m, Grant 0 page (record { 0 = 9 }), 0, m)
     ∷ (m, Grant 1 page (record { 0 = 12 }), 0, wide (last 0x0300 0x9200) r)
@@ -165,7 +166,7 @@ pub kernel-outcomes :
     ∷ (kernel f r 8 (marked true false) 7 entries, Return, 0, kernel f (live 0x0300 0xFF00 User false) 7 (marked true false) 7 entries)
     ∷ (one, Return, 0, kernel f (live 0x0300 0xFF00 User false) 0 (marked false true) 7 entries)
     ∷ (one, SetMask 0, 6, one)
-    ∷ (one, Access 1 0, 0, one)
+    ∷ (one, Access One 1 0, 0, one)
     ∷ (one, StoreField 0 (record { 0 = 127 }) 0xFFFF, 0, kernel (last 0xFFFF 0x8200) r 1 (marked false true) 7 entries)
     ∷ (one, StoreField 1 (record { 0 = 127 }) 0x00FF, 0, kernel (last 0x0300 0x00FF) r 1 (marked false true) 7 entries)
     ∷ (one, StoreField 1 (record { 0 = 128 }) 0x00FF, 4, one)
@@ -271,16 +272,16 @@ loose depth programs current mode pending =
 
 pub unchecked-order :
     (Answers uncheckedOf (loose 9 2 0 User false)
-    ((Access 2 0, 2) ∷ (Access 0 768, 3) ∷ (Access 0 0, 0) ∷ (Access 1 0, 9) ∷ (SetMask 0, 0) ∷ (Enter, 13) ∷ (Return, 7) ∷ (Switch 0, 7) ∷ []))
+    ((Access One 2 0, 2) ∷ (Access One 0 768, 3) ∷ (Access One 0 0, 0) ∷ (Access One 1 0, 9) ∷ (SetMask 0, 0) ∷ (Enter, 13) ∷ (Return, 7) ∷ (Switch 0, 7) ∷ []))
     × (Answers uncheckedOf (loose 255 2 0 Privileged false) ((Enter, 13) ∷ (Return, 0) ∷ (Switch 0, 15) ∷ []))
     × (Answers uncheckedOf (loose 0 2 2 User false) ((Enter, 0) ∷ (Return, 7) ∷ (Switch 3, 7) ∷ []))
     × (Answers uncheckedOf (loose 0 2 2 Privileged false) ((Return, 14) ∷ (Switch 3, 10) ∷ (Switch 0, 10) ∷ []))
     × (Answers uncheckedOf (loose 1 2 1 Privileged false) ((Switch 2, 16) ∷ (Switch 1, 0) ∷ []))
     × (Answers uncheckedOf (loose 0 2 1 Privileged false) ((Switch 2, 15) ∷ []))
     × (Answers uncheckedOf (loose 0 2 0 Privileged true)
-    ((Access 1 0, 0) ∷ (Access 1 768, 3) ∷ both 0 0 3 6 (both 0 0 16 5 ((SetMask 0, 6) ∷ (Enter, 0) ∷ []))))
+    ((Access One 1 0, 0) ∷ (Access One 1 768, 3) ∷ both 0 0 3 6 (both 0 0 16 5 ((SetMask 0, 6) ∷ (Enter, 0) ∷ []))))
     × (Answers uncheckedOf (loose 0 2 0 User true)
-    ((Access 1 0, 8) ∷ (Access 0 0, 8) ∷ both 0 0 3 8 ((SetMask 0, 8) ∷ (StoreMode 2, 17) ∷ (StoreMode 1, 7) ∷ [])))
+    ((Access One 1 0, 8) ∷ (Access One 0 0, 8) ∷ both 0 0 3 8 ((SetMask 0, 8) ∷ (StoreMode 2, 17) ∷ (StoreMode 1, 7) ∷ [])))
 unfolding uncheckedOf checksOf accessChecks changeChecks prevailing domainBit trailingZeros
 unchecked-order = (refl, refl, refl, refl, refl, refl, refl, refl)
 
@@ -292,7 +293,7 @@ pub unchecked-outcomes :
     let many = loose 1 9 8 Privileged false in
     Outcomes uncheckedOf
     ((empty, SetMask 7, 0, withRegisters (live 0x0101 7 User false) empty)
-    ∷ (empty, Access 1 0, 9, withLast (denied 0 1 0) (withRegisters (live 0x0101 0xFF01 User true) empty))
+    ∷ (empty, Access One 1 0, 9, withLast (denied 0 1 0) (withRegisters (live 0x0101 0xFF01 User true) empty))
     ∷ (empty, Enter, 13, empty)
     ∷ (deep, Return, 0, withRegisters (live 0x0101 0xFF01 User false) (loose 8 2 0 Privileged false))
     ∷ (
@@ -315,7 +316,7 @@ unchecked-outcomes = refl
 pub checked-outcomes :
     let m = loose 9 2 0 User false in
     Outcomes callOf
-    ((m, SetMask 7, 1, m) ∷ (m, Access 1 0, 1, m) ∷ (m, Enter, 1, m) ∷ (m, Return, 1, m) ∷ (m, StoreMode 2, 1, m) ∷ [])
+    ((m, SetMask 7, 1, m) ∷ (m, Access One 1 0, 1, m) ∷ (m, Enter, 1, m) ∷ (m, Return, 1, m) ∷ (m, StoreMode 2, 1, m) ∷ [])
 unfolding callOf after isSound
 checked-outcomes = refl
 
@@ -332,7 +333,7 @@ pub parts-put-in :
     ∷ withPrograms 2 (stored 3 4 User ∷ []) one-machine
     ∷ withLent (2 ∷ []) (false ∷ []) one-machine
     ∷ withLast (denied 2 0 3) one-machine
-    ∷ violated (withRegisters (live 3 4 User false) one-machine) (Access 0 4)
+    ∷ violated (withRegisters (live 3 4 User false) one-machine) (Access One 0 4)
     ∷ []
     ≡ holding (denied 1 1 1) 1 5 (2 ∷ []) (live 1 2 Privileged true) 1 (true ∷ []) 1 1 (stored 1 2 Privileged ∷ [])
     ∷ holding (denied 1 1 1) 1 5 (1 ∷ []) (live 3 4 User false) 1 (true ∷ []) 1 1 (stored 1 2 Privileged ∷ [])
@@ -366,7 +367,7 @@ told-apart = (refl, refl)
 -- the machine after a call: the effect on 0, flag and last violation on 9, the machine before it on every other number
 pub after-numbers :
     let m = holding (denied 0 1 2) 1 5 [] (live 1 2 User false) 0 [] 3 2 [] in
-    (map (λ (n : ℕ). after n m (Access 0 31)) (0 ∷ 1 ∷ 2 ∷ 8 ∷ 9 ∷ 10 ∷ 11 ∷ 18 ∷ [])
+    (map (λ (n : ℕ). after n m (Access One 0 31)) (0 ∷ 1 ∷ 2 ∷ 8 ∷ 9 ∷ 10 ∷ 11 ∷ 18 ∷ [])
     ≡ m ∷ m ∷ m ∷ m ∷ holding (denied 2 0 31) 1 5 [] (live 1 2 User true) 0 [] 3 2 [] ∷ m ∷ m ∷ m ∷ [])
     × (map (λ (n : ℕ). after n m (SetMask 4)) (0 ∷ 1 ∷ 6 ∷ 8 ∷ [])
     ≡ holding (denied 0 1 2) 1 5 [] (live 1 4 User false) 0 [] 3 2 [] ∷ m ∷ m ∷ m ∷ [])
@@ -377,7 +378,7 @@ after-numbers = (refl, refl)
 
 pub numbers-listed :
     (map listed
-    (Access 0 0
+    (Access One 0 0
     ∷ Grant 0 (record { 0 = 0 }) (record { 0 = 0 })
     ∷ Revoke 0 (record { 0 = 0 }) (record { 0 = 0 })
     ∷ SetMask 0

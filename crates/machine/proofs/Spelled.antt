@@ -2,7 +2,7 @@
 -- call by all its parts, what 9 keeps and what is reported. The tables of Cases and Pinned try machines that are written out; here none is left out.
 use Prim.Native.Nat.{ℕ, _+_, _-_, _*_, _^_, _/_}
 use mathlib.Core.Path.{_≡_, refl}
-use mathlib.Core.Bool.{Bool, true, false, not, _&&_}
+use mathlib.Core.Bool.{Bool, true, false, not, _&&_, _||_, or-false}
 use mathlib.Core.List.{List, [], _∷_, map}
 use lib.Bits.{bitAnd}
 use lib.Dec.{leb, ltb, eqb}
@@ -20,6 +20,8 @@ use Rattle.machine.specs.declared.record.Domain.{Domain}
 use Rattle.machine.specs.declared.record.LastViolation.the-variants.{Absent}
 use Rattle.machine.specs.declared.record.Report.the-variants.{Nothing, Denied}
 use Rattle.machine.specs.declared.record.Answered.{Answered}
+use Rattle.machine.specs.declared.record.Width.{Width}
+use Rattle.machine.specs.declared.record.Width.the-variants.{One, Two}
 use Rattle.machine.specs.declared.record.Call.{Call}
 use Rattle.machine.specs.declared.record.Call.the-variants.{Access, Grant, Revoke, SetMask, Enter, Return, Switch, StoreField, StoreContext, StoreMask, StoreMode, AskViolation}
 use Rattle.machine.proofs.Written.{stored, live, denied, holding}
@@ -48,22 +50,32 @@ module _ (m : Machine) where
   unfolding isSound
   sound-spelled = refl
 
-  pub access-number-spelled : (right address : ℕ)
-      → number (Access right address)
-      ≡ pick (not (leb right 1)) 2
-      (pick (leb (m .pages * 2 ^ m .exponent) address) 3
-      (pick privileged 0 (pick pending 8 (pick (eqb (bitAnd (field right (address / 2 ^ m .exponent)) local) 0) 9 0))))
-  unfolding uncheckedOf checksOf accessChecks
-  access-number-spelled right address = split privileged
-    where
-      user-only : List Check
-      user-only = (pending ⇒ 8) ∷ (eqb (bitAnd (field right (address / 2 ^ m .exponent)) local) 0 ⇒ 9) ∷ []
+  -- a byte that is outside memory, and one whose page does not give the right
+  abbrev outside : ℕ → Bool
+  outside byte = leb (m .pages * 2 ^ m .exponent) byte
 
-      split : (b : Bool)
-          → first ((not (leb right 1) ⇒ 2) ∷ (leb (m .pages * 2 ^ m .exponent) address ⇒ 3) ∷ pick b [] user-only)
-          ≡ pick (not (leb right 1)) 2 (pick (leb (m .pages * 2 ^ m .exponent) address) 3 (pick b 0 (first user-only)))
-      split true = refl
-      split false = refl
+  abbrev apart : ℕ → ℕ → Bool
+  apart right byte = eqb (bitAnd (field right (byte / 2 ^ m .exponent)) local) 0
+
+  pub access-number-spelled : (right address : ℕ)
+      → let spelled : Bool → Bool → ℕ =
+      λ out denied. pick (not (leb right 1)) 2 (pick out 3 (pick privileged 0 (pick pending 8 (pick denied 9 0)))) in
+      (number (Access One right address) ≡ spelled (outside address) (apart right address))
+      × (number (Access Two right address)
+      ≡ spelled (outside address || outside (address + 1)) (apart right address || apart right (address + 1)))
+  unfolding uncheckedOf checksOf accessChecks
+  access-number-spelled right address =
+      let last = address + 1 in (
+        rw (or-false (outside address), or-false (apart right address)) (split privileged (outside address) (apart right address)),
+        rw (or-false (outside last), or-false (apart right last))
+            (split privileged (outside address || outside last) (apart right address || apart right last)),
+      )
+    where
+      split : (b out denied : Bool)
+          → first ((not (leb right 1) ⇒ 2) ∷ (out ⇒ 3) ∷ pick b [] ((pending ⇒ 8) ∷ (denied ⇒ 9) ∷ []))
+          ≡ pick (not (leb right 1)) 2 (pick out 3 (pick b 0 (pick pending 8 (pick denied 9 0))))
+      split true out denied = refl
+      split false out denied = refl
 
   -- grant and revoke alike
   abbrev change-number : ℕ → ℕ → ℕ → ℕ
@@ -104,14 +116,14 @@ module _ (m : Machine) where
   abbrev with-registers : Registers → Machine
   with-registers r = holding (m .violations .last) (m .pages) (m .exponent) (m .fields) r (m .depth) (m .saved) (m .programs) (m .current) (m .table)
 
-  pub command-effects-spelled : (right address bits : ℕ) (page : Page) (s : Domain)
+  pub command-effects-spelled : (width : Width) (right address bits : ℕ) (page : Page) (s : Domain)
       → let at = 2 * page .0 + right in
-      (effectOf m (Access right address) ≡ m)
+      (effectOf m (Access width right address) ≡ m)
       × (effectOf m (Grant right page s) ≡ with-fields (set (m .fields) at (withBit (getD (m .fields) at 0) (s .0))))
       × (effectOf m (Revoke right page s) ≡ with-fields (set (m .fields) at (withoutBit (getD (m .fields) at 0) (s .0))))
       × (effectOf m (SetMask bits) ≡ with-registers (live (m .registers .context) bits (m .registers .mode) pending))
   unfolding effectOf
-  command-effects-spelled right address bits page s = (refl, refl, refl, refl)
+  command-effects-spelled width right address bits page s = (refl, refl, refl, refl)
 
   pub store-effects-spelled : (right bits mode : ℕ) (page : Page)
       → let r = m .registers in
@@ -147,18 +159,18 @@ module _ (m : Machine) where
       ∷ StoreMask bits ∷ StoreMode bits ∷ []
 
   -- what 9 would leave as the last violation: the access that was denied; no other call brings one
-  pub denials-spelled : (right address bits : ℕ) (page : Page) (s : Domain)
-      → (deniedBy m (Access right address) ≡ denied (m .current) right address)
+  pub denials-spelled : (width : Width) (right address bits : ℕ) (page : Page) (s : Domain)
+      → (deniedBy m (Access width right address) ≡ denied (m .current) right address)
       × (map (deniedBy m) (AskViolation ∷ others right bits page s) ≡ replicate 11 (m .violations .last))
-  denials-spelled right address bits page s = (refl, refl)
+  denials-spelled width right address bits page s = (refl, refl)
 
   -- what an accepted call reports: the question what is kept, every other one nothing
-  pub reports-spelled : (right address bits : ℕ) (page : Page) (s : Domain) (program right′ address′ : ℕ)
-      → (map (reportOf m) (Access right address ∷ others right bits page s) ≡ replicate 11 Nothing)
+  pub reports-spelled : (width : Width) (right address bits : ℕ) (page : Page) (s : Domain) (program right′ address′ : ℕ)
+      → (map (reportOf m) (Access width right address ∷ others right bits page s) ≡ replicate 11 Nothing)
       × (m .violations .last ≡ Absent → reportOf m AskViolation ≡ Nothing)
       × (m .violations .last ≡ denied program right′ address′
       → reportOf m AskViolation ≡ Denied (record { program = program; right = right′; address = address′ }))
-  reports-spelled right address bits page s program right′ address′ = (refl, λ none. rw none, λ was. rw was)
+  reports-spelled width right address bits page s program right′ address′ = (refl, λ none. rw none, λ was. rw was)
 
   -- a number, an effect and a report put together: 9 sets the flag and the last violation, any other refusal leaves the machine, and no refusal
   -- reports anything; and the call by value asks for soundness first

@@ -6,21 +6,21 @@ use mathlib.Core.Bool.{Bool, true, false, not, _&&_, true≢false}
 use mathlib.Core.List.{List, [], _∷_}
 use borrow.Author.Tests.{eqb-false, leb-true, ltb-true, lt-ltb, not-false}
 use native.Mathlib.Omega.{arith}
-use lib.Bits.{bitAnd}
-use lib.Dec.{leb, ltb, eqb}
+use lib.Dec.{ltb, eqb}
 use lib.ListN.{getD, set}
 use lib.Seq.{getD-set-other}
-use Rattle.rules.specs.Registers.{modeWhere, isPrivileged, localContext}
+use Rattle.rules.specs.Registers.{modeWhere, isPrivileged}
 use Rattle.rules.specs.Refusals.{Check, _⇒_, first, pick}
 use Rattle.rules.specs.declared.registers.Mode.{Mode}
 use Rattle.rules.specs.declared.registers.Registers.{Registers}
-use Rattle.machine.specs.Machine.{isRight, isSound, memorySize, fieldOf, placeOf, noProgram, withFields, withRegisters}
-use Rattle.machine.specs.Calls.{checksOf, accessChecks, changeChecks, effectOf, entered, returned, switched, inPrivilegedMode, inUserMode, modeOf, numberOf, pageOf}
+use Rattle.machine.specs.Machine.{isRight, isSound, placeOf, noProgram, withFields, withRegisters}
+use Rattle.machine.specs.Calls.{checksOf, accessChecks, changeChecks, effectOf, entered, returned, switched, inPrivilegedMode, inUserMode, isDenied, isOutsideMemory, modeOf, numberOf, touched, any}
 use Rattle.machine.specs.Listed.{isIn, ownNumbers, soundNumbers}
 use Rattle.machine.specs.declared.record.Machine.{Machine}
 use Rattle.machine.specs.declared.record.Page.{Page}
 use Rattle.machine.specs.declared.record.Domain.{Domain}
 use Rattle.machine.specs.declared.record.Call.{Call}
+use Rattle.machine.specs.declared.record.Width.{Width}
 use Rattle.machine.specs.declared.record.Call.the-variants.{Access, Grant, Revoke, SetMask, Enter, Return, Switch, StoreField, StoreContext, StoreMask, StoreMode, AskViolation}
 use Rattle.machine.proofs.Sound.{and-both, sound-facts, moved-sound}
 use Rattle.machine.proofs.Entitled.{entitled}
@@ -43,15 +43,16 @@ either-mode : (P : List Check → Type 0) (privileged : Bool) (b₂ b₃ b₈ b�
 either-mode P true b₂ b₃ b₈ b₉ p u = p
 either-mode P false b₂ b₃ b₈ b₉ p u = u
 
-access-either : (P : List Check → Type 0) (m : Machine) (right address : ℕ)
+access-either : (P : List Check → Type 0) (m : Machine) (width : Width) (right address : ℕ)
     → ((b₂ b₃ b₈ b₉ : Bool) → P ((b₂ ⇒ 2) ∷ (b₃ ⇒ 3) ∷ []) × P ((b₂ ⇒ 2) ∷ (b₃ ⇒ 3) ∷ (b₈ ⇒ 8) ∷ (b₉ ⇒ 9) ∷ []))
-    → P (checksOf m (Access right address))
+    → P (checksOf m (Access width right address))
 unfolding checksOf accessChecks
-access-either P m right address h =
+access-either P m width right address h =
     let b₂ = not (isRight right) in
-    let b₃ = leb (memorySize m) address in
+    let bytes = touched width address in
+    let b₃ = any (isOutsideMemory m) bytes in
     let b₈ = m .registers .pending in
-    let b₉ = eqb (bitAnd (fieldOf m right (pageOf m address)) (localContext (m .registers))) 0 in
+    let b₉ = any (isDenied m right) bytes in
     either-mode P (inPrivilegedMode m) b₂ b₃ b₈ b₉ (h b₂ b₃ b₈ b₉ .0) (h b₂ b₃ b₈ b₉ .1)
 
 -- the page count, the exponent and the program count
@@ -202,17 +203,17 @@ enter-left m =
       stack-past = λ i past filled. getD-set-other (m .saved) (m .depth) i _ false (filled refl);
     }
 
-access-numbered : (m : Machine) (right address : ℕ) → Numbered m (Access right address)
+access-numbered : (m : Machine) (width : Width) (right address : ℕ) → Numbered m (Access width right address)
 unfolding checksOf accessChecks
-access-numbered m right address =
-    let call = Access right address in
+access-numbered m width right address =
+    let call = Access width right address in
     record {
-      own = access-either (λ checks. within (0 ∷ ownNumbers call) checks ≡ true) m right address (λ b₂ b₃ b₈ b₉. (refl, refl));
+      own = access-either (λ checks. within (0 ∷ ownNumbers call) checks ≡ true) m width right address (λ b₂ b₃ b₈ b₉. (refl, refl));
       no-one = refl;
       given =
           λ s.
           first-within soundNumbers (checksOf m call)
-          (access-either (λ checks. within soundNumbers checks ≡ true) m right address (λ b₂ b₃ b₈ b₉. (refl, refl)));
+          (access-either (λ checks. within soundNumbers checks ≡ true) m width right address (λ b₂ b₃ b₈ b₉. (refl, refl)));
       no-nine = λ e. rw e;
     }
 
@@ -231,9 +232,9 @@ switch-numbered m program =
 
 pub told : (m : Machine) (call : Call) → Told m call
 unfolding isSound checksOf changeChecks effectOf entered returned switched
-told m (Access right address) =
-    let call = Access right address in
-    tell (access-numbered m right address) (program's m call refl) (λ n. untouched m call _) (λ s n. s)
+told m (Access width right address) =
+    let call = Access width right address in
+    tell (access-numbered m width right address) (program's m call refl) (λ n. untouched m call _) (λ s n. s)
 told m (Grant right page d) =
     let call = Grant right page d in
     tell (plain m call refl refl refl refl) (program's m call refl) (λ n. one-field m call (placeOf right (page .0)) _ (change-place m true right page d n)) (λ s n. s)

@@ -17,6 +17,7 @@ use Rattle.machine.specs.Calls.{callOf, silent, numberOf, checksOf, effe
 use Rattle.machine.specs.declared.record.Machine.{Machine}
 use Rattle.machine.specs.declared.record.Program.{Program}
 use Rattle.machine.specs.declared.record.Report.the-variants.{Denied}
+use Rattle.machine.specs.declared.record.Width.{Width}
 use Rattle.machine.specs.declared.record.Call.the-variants.{Access, Enter, Return, Switch, AskViolation}
 use Rattle.machine.proofs.Sound.{sound-facts, moved-sound}
 use Rattle.machine.proofs.Laws.{one-exactly, soundness-kept, access-violated, question-answered}
@@ -98,17 +99,17 @@ turn-begins m program sound depth long below = by-stack (m .saved) refl long
 
 -- RULES 3.25: who was denied what: after a violation below depth 8 and the interrupt that it asks for, the question hands out its program, right and
 -- address
-pub denial-handed-out : (m : Machine) (right address : ℕ) → callOf m (Access right address) .number ≡ 9 → m .depth < 8
-    → let flagged = callOf m (Access right address) .machine in
+pub denial-handed-out : (m : Machine) (width : Width) (right address : ℕ) → callOf m (Access width right address) .number ≡ 9 → m .depth < 8
+    → let flagged = callOf m (Access width right address) .machine in
     let interrupt = callOf flagged Enter .machine in
     (callOf interrupt AskViolation .number ≡ 0)
     × (callOf interrupt AskViolation .report ≡ Denied (record { program = m .current; right = right; address = address }))
 unfolding entered
-denial-handed-out m right address nine below =
-    let call = Access right address in
+denial-handed-out m width right address nine below =
+    let call = Access width right address in
     let sound : isSound m ≡ true = not-false (isSound m) (sym (one-exactly m call) ∙ rw nine) in
     let flagged = callOf m call .machine in
-    let left = access-violated m right address nine in
+    let left = access-violated m width right address nine in
     let entry = entry-accepted flagged (soundness-kept m call ∙ sound) (rw left below) in
     let asked = question-answered (entered flagged) in
     let calm : isSound (entered flagged) ≡ true = ap (λ r. isSound (r .machine)) (sym entry) ∙ soundness-kept flagged Enter ∙ soundness-kept m call ∙ sound in

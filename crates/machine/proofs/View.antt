@@ -15,19 +15,21 @@ use Rattle.rules.specs.declared.domains.Prevailing.{Prevailing}
 use Rattle.rules.specs.declared.domains.Prevailing.the-variants.{At}
 use Rattle.rules.proofs.Bits.{and-assoc, unseen, seen-alike, local-held, unmoved}
 use Rattle.machine.specs.Machine.{isSound, placeOf, fieldOf, withFields, withRegisters, withLast}
-use Rattle.machine.specs.Calls.{callOf, checksOf, accessChecks, changeChecks, effectOf, deniedBy, numberOf, pageOf}
+use Rattle.machine.specs.Calls.{callOf, checksOf, accessChecks, changeChecks, effectOf, deniedBy, isDenied, isOutsideMemory, numberOf, pageOf, touched}
 use Rattle.machine.specs.declared.record.Machine.{Machine}
 use Rattle.machine.specs.declared.record.Page.{Page}
 use Rattle.machine.specs.declared.record.Domain.{Domain}
 use Rattle.machine.specs.declared.record.LastViolation.{LastViolation}
+use Rattle.machine.specs.declared.record.Width.{Width}
 use Rattle.machine.specs.declared.record.Call.{Call}
 use Rattle.machine.specs.declared.record.Call.the-variants.{Access, Grant, Revoke, SetMask}
 use Rattle.machine.proofs.Entitled.{Entitled, entitled}
+use Rattle.machine.proofs.Touched.{any-same}
 use Rattle.machine.proofs.Answers.{avoids, after-cases, after-both, not-nine, change-avoids, change-checks, change-effect}
 
 -- the calls of a turn after its entry, switch and return
 pub data IsCommand : Call → Type 0 where
-  an-access : (right address : ℕ) → IsCommand (Access right address)
+  an-access : (width : Width) (right address : ℕ) → IsCommand (Access width right address)
   a-change : (granting : Bool) (right : ℕ) (page : Page) (s : Domain)
       → IsCommand (pick granting (Grant right page s) (Revoke right page s))
   a-mask : (bits : ℕ) → IsCommand (SetMask bits)
@@ -120,8 +122,8 @@ module _ (m : Machine) where
 
   pub command-stays : {call : Call} → IsCommand call → Stays m (callOf m call .machine)
   unfolding callOf effectOf
-  command-stays (an-access right address) =
-      let call = Access right address in
+  command-stays (an-access width right address) =
+      let call = Access width right address in
       after-cases (Stays m) (numberOf m call) m call (λ _. same-stays)
       (λ _. stays-with m (m .registers .mask) true (m .fields) (deniedBy m call) refl)
       same-stays
@@ -152,8 +154,8 @@ Below m context =
 pub command-unseen : (m : Machine) {call : Call} → IsCommand call → (context : ℕ) → context < 65536 → Below m context
     → view context (callOf m call .machine) ≡ view context m
 unfolding callOf effectOf
-command-unseen m (an-access right address) context small below =
-    after-cases (λ end. view context end ≡ view context m) (numberOf m (Access right address)) m (Access right address)
+command-unseen m (an-access width right address) context small below =
+    after-cases (λ end. view context end ≡ view context m) (numberOf m (Access width right address)) m (Access width right address)
     (λ _. refl) (λ _. refl) refl
 command-unseen m (a-change granting right page s) context small below =
     let call = pick granting (Grant right page s) (Revoke right page s) in
@@ -185,7 +187,7 @@ SeenAlike context m n = (m .registers ≡ n .registers) × (view context m ≡ v
 module _ {context : ℕ} {m n : Machine} (a : Alike context m n) where
   -- a command has one number on both
   module _ (live : m .registers .context ≡ context) (sound : isSound m ≡ true) (sound′ : isSound n ≡ true) where
-    -- an access is judged by what the context sees of the field
+    -- an access is judged by what the context sees of the fields
     judged : (at : ℕ)
         → bitAnd (getD (m .fields) at 0) (localContext (m .registers))
         ≡ bitAnd (getD (n .fields) at 0) (localContext (n .registers))
@@ -198,8 +200,12 @@ module _ {context : ℕ} {m n : Machine} (a : Alike context m n) where
 
     pub alike-number : {call : Call} → IsCommand call → numberOf m call ≡ numberOf n call
     unfolding checksOf accessChecks changeChecks
-    alike-number (an-access right address) =
-        rw (sound, sound′, a .exponent, a .pages, judged (placeOf right (pageOf n address)), a .registers)
+    alike-number (an-access width right address) =
+        let bytes = touched width address in
+        let outside = any-same {p = isOutsideMemory m} {q = isOutsideMemory n} (λ byte. rw (a .exponent, a .pages)) bytes in
+        let denied =
+        any-same {p = isDenied m right} {q = isDenied n right} (λ byte. rw (a .exponent, judged (placeOf right (pageOf n byte)))) bytes in
+        rw (sound, sound′, outside, denied, a .registers)
     alike-number (a-change granting right page s) =
         let prevails = mapped-at prevailing (m .fields) (n .fields) 0 (a .prevails) (placeOf right (page .0)) in
         rw (change-checks m right page s granting, change-checks n right page s granting)
@@ -208,7 +214,7 @@ module _ {context : ℕ} {m n : Machine} (a : Alike context m n) where
 
   effects-alike : {call : Call} → IsCommand call → SeenAlike context (effectOf m call) (effectOf n call)
   unfolding effectOf
-  effects-alike (an-access right address) = (a .registers, a .seen)
+  effects-alike (an-access width right address) = (a .registers, a .seen)
   effects-alike (a-change granting right page s) =
       let at = placeOf right (page .0) in
       let field = seen-at context m n (a .seen) at in

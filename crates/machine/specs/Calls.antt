@@ -1,6 +1,6 @@
 -- The twelve calls (RULES, sections 2 and 3): for each its own conditions, in order, its effect and what it reports.
 use Prim.Native.Nat.{ℕ, _+_, _-_, _^_, _/_}
-use mathlib.Core.Bool.{Bool, true, false, not}
+use mathlib.Core.Bool.{Bool, true, false, not, _||_}
 use mathlib.Core.List.{List, [], _∷_}
 use lib.Bits.{bitAnd}
 use lib.Dec.{leb, ltb, eqb}
@@ -20,6 +20,8 @@ use Rattle.machine.specs.declared.record.LastViolation.the-variants.{Abs
 use Rattle.machine.specs.declared.record.Report.{Report}
 use Rattle.machine.specs.declared.record.Report.the-variants.{Nothing, Denied}
 use Rattle.machine.specs.declared.record.Answered.{Answered}
+use Rattle.machine.specs.declared.record.Width.{Width}
+use Rattle.machine.specs.declared.record.Width.the-variants.{One, Two}
 use Rattle.machine.specs.declared.record.Call.{Call}
 use Rattle.machine.specs.declared.record.Call.the-variants.{Access, Grant, Revoke, SetMask, Enter, Return, Switch, StoreField, StoreContext, StoreMask, StoreMode, AskViolation}
 use Rattle.machine.specs.Machine.{isRight, isSound, memorySize, placeOf, fieldOf, noProgram, withFields, withRegisters, withStack, withPrograms, withLast, withLent}
@@ -40,18 +42,36 @@ inPrivilegedMode m = isPrivileged (m .registers .mode)
 abbrev pub inUserMode : Machine → Bool
 inUserMode m = not (inPrivilegedMode m)
 
--- RULES 1.9, 3.3: the page of an address; an access of two bytes is on its first byte's page
+-- RULES 1.9: the page of an address
 abbrev pub pageOf : Machine → ℕ → ℕ
 pageOf m address = address / 2 ^ m .exponent
 
--- RULES 3.2: the own conditions of an access, from the field of that right to the address's page. 8 and 9 are for user mode: in privileged
--- mode every address in memory is allowed (3.3).
-unfoldable pub accessChecks : Machine → ℕ → ℕ → ℕ → List Check
-accessChecks m right address field =
+-- RULES 3.2: the addresses of the bytes that an access touches, the first of them first. The one after 0xFFFFFFFF is 0x100000000: nothing wraps.
+abbrev pub touched : Width → ℕ → List ℕ
+touched One address = address ∷ []
+touched Two address = address ∷ (address + 1) ∷ []
+
+-- a condition is met by one of a list at least
+abbrev pub any : (ℕ → Bool) → List ℕ → Bool
+any meets [] = false
+any meets (x ∷ rest) = meets x || any meets rest
+
+-- RULES 1.9, 3.2, for 3: a byte is outside memory
+abbrev pub isOutsideMemory : Machine → ℕ → Bool
+isOutsideMemory m byte = leb (memorySize m) byte
+
+-- RULES 3.2, for 9: the page of a byte does not give the right: its field for that right shares no domain with the local context
+abbrev pub isDenied : Machine → ℕ → ℕ → Bool
+isDenied m right byte = eqb (bitAnd (fieldOf m right (pageOf m byte)) (localContext (m .registers))) 0
+
+-- RULES 3.2: the own conditions of an access to these bytes, of which any one is enough for 3 or for 9. 8 and 9 are for user mode: in privileged
+-- mode every access within memory is allowed (3.3).
+unfoldable pub accessChecks : Machine → ℕ → List ℕ → List Check
+accessChecks m right bytes =
     (not (isRight right) ⇒ 2)
-    ∷ (leb (memorySize m) address ⇒ 3)
+    ∷ (any (isOutsideMemory m) bytes ⇒ 3)
     ∷ pick (inPrivilegedMode m) []
-    ((m .registers .pending ⇒ 8) ∷ (eqb (bitAnd field (localContext (m .registers))) 0 ⇒ 9) ∷ [])
+    ((m .registers .pending ⇒ 8) ∷ (any (isDenied m right) bytes ⇒ 9) ∷ [])
 
 -- RULES 3.4, 3.6: the own conditions of grant and revoke alike, from the domain that prevails in the field
 unfoldable pub changeChecks : Machine → ℕ → Page → Domain → Prevailing → List Check
@@ -66,9 +86,9 @@ changeChecks m right page s prevails =
     ∷ []
 
 -- RULES 2.3: each call's own conditions, in the order in which they are looked at.
--- RULES 3.2: access
+-- RULES 3.2: access, of either width
 unfoldable pub checksOf : Machine → Call → List Check
-checksOf m (Access right address) = accessChecks m right address (fieldOf m right (pageOf m address))
+checksOf m (Access width right address) = accessChecks m right (touched width address)
 -- RULES 3.4, 3.6: grant and revoke, which refuse the same
 checksOf m (Grant right page s) = changeChecks m right page s (prevailing (fieldOf m right (page .0)))
 checksOf m (Revoke right page s) = changeChecks m right page s (prevailing (fieldOf m right (page .0)))
@@ -140,7 +160,7 @@ switched m program =
 -- RULES 2.3: the machine after a call that nothing refuses; what an effect does not name stays (3.1).
 -- RULES 3.3: an allowed access changes nothing
 unfoldable pub effectOf : Machine → Call → Machine
-effectOf m (Access right address) = m
+effectOf m (Access width right address) = m
 -- RULES 3.5, 3.7: a grant sets the bit of s and a revocation clears it, whatever it was
 effectOf m (Grant right page s) = withField m right (page .0) (withBit (fieldOf m right (page .0)) (s .0))
 effectOf m (Revoke right page s) = withField m right (page .0) (withoutBit (fieldOf m right (page .0)) (s .0))
@@ -158,9 +178,10 @@ effectOf m (StoreMode mode) = withRegisters (withMode (modeOf mode) (m .register
 -- RULES 3.25: the question changes nothing, so that it can be asked again
 effectOf m AskViolation = m
 
--- RULES 1.16, 3.3: what an answer of 9 leaves as the last violation: the current program was denied that right to that address.
+-- RULES 1.16, 3.3: what an answer of 9 leaves as the last violation: the current program was denied that right to that address, which is the first
+-- byte's, whichever byte's page denied it.
 abbrev pub deniedBy : Machine → Call → LastViolation
-deniedBy m (Access right address) = Was (record { program = m .current; right = right; address = address })
+deniedBy m (Access width right address) = Was (record { program = m .current; right = right; address = address })
 -- RULES 9.1: no other call answers 9, and the last violation stays
 deniedBy m (Grant right page s) = m .violations .last
 deniedBy m (Revoke right page s) = m .violations .last
@@ -189,7 +210,7 @@ handedOut (Was violation) = Denied violation
 
 -- RULES 2.13: what a call reports that nothing refuses. The question hands out the last violation, and no other call reports anything.
 abbrev pub reportOf : Machine → Call → Report
-reportOf m (Access right address) = Nothing
+reportOf m (Access width right address) = Nothing
 reportOf m (Grant right page s) = Nothing
 reportOf m (Revoke right page s) = Nothing
 reportOf m (SetMask bits) = Nothing

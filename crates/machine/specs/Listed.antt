@@ -13,7 +13,7 @@ isIn n (x ∷ rest) = eqb n x || isIn n rest
 
 -- RULES 9.1: the numbers of each call's own conditions, in their order
 abbrev pub ownNumbers : Call → List ℕ
-ownNumbers (Access right address) = 2 ∷ 3 ∷ 8 ∷ 9 ∷ []
+ownNumbers (Access width right address) = 2 ∷ 3 ∷ 8 ∷ 9 ∷ []
 ownNumbers (Grant right page s) = 2 ∷ 4 ∷ 5 ∷ 6 ∷ 8 ∷ 11 ∷ 12 ∷ []
 ownNumbers (Revoke right page s) = 2 ∷ 4 ∷ 5 ∷ 6 ∷ 8 ∷ 11 ∷ 12 ∷ []
 ownNumbers (SetMask bits) = 6 ∷ 8 ∷ []

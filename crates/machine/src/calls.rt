@@ -13,6 +13,7 @@ use crate::record::Program;
 use crate::record::Report;
 use crate::record::Violation;
 use crate::record::Violations;
+use crate::record::Width;
 use crate::record::page_of;
 use crate::record::place;
 use crate::record::read_field;
@@ -35,12 +36,15 @@ use rules::domains::without_bit;
 use rules::registers::Mode;
 use rules::registers::replace_mask;
 ghost use mathlib.Core.Path.{_≡_};
-ghost use Prim.Native.Nat.{_-_};
+ghost use Prim.Native.Nat.{_+_, _-_, _*_, _^_, _/_};
+ghost use lib.Bits.{bitAnd};
+ghost use lib.Dec.{leb, eqb};
+ghost use lib.ListN.{getD};
 ghost use Rattle.rules.specs.Domains.{prevailing, withBit, withoutBit};
 ghost use Rattle.rules.specs.Refusals.{pick, first};
-ghost use Rattle.machine.specs.Machine.{withFields, withStack};
+ghost use Rattle.machine.specs.Machine.{placeOf, withFields, withStack};
 ghost use Rattle.machine.specs.declared.record.Call.{Call};
-ghost use Rattle.machine.specs.Calls.{callOf, uncheckedOf, answerBy, ownNumberOf, keeping, changeCall, accessChecks, changeChecks, modeOf, silent};
+ghost use Rattle.machine.specs.Calls.{callOf, uncheckedOf, answerBy, ownNumberOf, keeping, changeCall, touched, any, accessChecks, changeChecks, modeOf, silent};
 
 // The new value where a call was accepted, else the old one.
 fn chosen(done: bool, new: u16, old: u16) -> u16
@@ -86,6 +90,51 @@ pub fn mode_of(number: u16) -> Mode
     Mode::Privileged
 }
 
+// The byte so far ahead of an address is outside memory.
+fn outside(pages: u16, exponent: u8, address: u32, ahead: u8) -> bool
+    ensures { λ r. ⌜ r ≡ leb (pages * 2 ^ exponent) (address + ahead) ⌝ }
+{
+    (pages as u64) <= page_of(address, ahead, exponent)
+}
+
+// Some byte that an access touches is outside memory (RULES 3.2, for 3).
+fn any_outside(pages: u16, exponent: u8, width: Width, address: u32) -> bool
+    ensures { λ r. ⌜ r ≡ any (λ byte. leb (pages * 2 ^ exponent) byte) (touched width address) ⌝ }
+{
+    match width {
+        Width::One => outside(pages, exponent, address, 0),
+        Width::Two => outside(pages, exponent, address, 0) | outside(pages, exponent, address, 1),
+    }
+}
+
+// The page of the byte so far ahead of an address does not give the right through a local context.
+fn denied(fields: &[u16], exponent: u8, local: u16, right: u8, address: u32, ahead: u8) -> bool
+    ensures { λ r. ⌜ r ≡ eqb (bitAnd (getD (now (fields .entry)) (placeOf right ((address + ahead) / 2 ^ exponent)) 0) local) 0 ⌝ }
+{
+    let page = page_of(address, ahead, exponent) as usize;
+    read_field(fields, 2 * page + right as usize) & local == 0
+}
+
+// The page of some byte that an access touches does not (RULES 3.2, for 9). Each byte is asked by itself: fields are never joined.
+fn any_denied(
+    fields: &[u16],
+    exponent: u8,
+    local: u16,
+    width: Width,
+    right: u8,
+    address: u32,
+) -> bool
+    ensures { λ r. ⌜ r ≡ any (λ byte. eqb (bitAnd (getD (now (fields .entry)) (placeOf right (byte / 2 ^ exponent)) 0) local) 0) (touched width address) ⌝ }
+{
+    match width {
+        Width::One => denied(fields, exponent, local, right, address, 0),
+        Width::Two => {
+            denied(fields, exponent, local, right, address, 0)
+                | denied(fields, exponent, local, right, address, 1)
+        }
+    }
+}
+
 impl Answered {
     // The answer with the stack that was lent.
     fn with_saved(self, saved: [bool; 8]) -> Answered
@@ -115,28 +164,33 @@ impl Machine {
         }
     }
 
-    // The number of an access, from the field of that right to the address's page.
-    fn access_at(self, right: u8, address: u32, field: u16) -> u8
-        ensures { λ r. ⌜ r ≡ first (accessChecks self right address field) ⌝ }
+    // The number of an access, from the fields that are lent.
+    fn access_at(self, fields: &[u16], width: Width, right: u8, address: u32) -> u8
+        ensures { λ r. ⌜ r ≡ first (accessChecks (withFields (now (fields .entry)) self) right (touched width address)) ⌝ }
     {
         let registers = self.registers;
         access_number(
             !(right <= 1),
-            (self.pages as u32) <= page_of(address, self.exponent),
+            any_outside(self.pages, self.exponent, width, address),
             registers.privileged(),
             registers.pending,
-            field & registers.local() == 0,
+            any_denied(
+                fields,
+                self.exponent,
+                registers.local(),
+                width,
+                right,
+                address,
+            ),
         )
     }
 
     // The access on lent fields (RULES 2.10). The machine that comes back keeps its own.
-    pub fn access_lent(mut self, fields: &[u16], right: u8, address: u32) -> Answered
-        ensures { λ r. ⌜ r ≡ keeping self (uncheckedOf (withFields (now (fields .entry)) self) (Call.Access right address)) ⌝ }
+    pub fn access_lent(mut self, fields: &[u16], width: Width, right: u8, address: u32) -> Answered
+        ensures { λ r. ⌜ r ≡ keeping self (uncheckedOf (withFields (now (fields .entry)) self) (Call.Access width right address)) ⌝ }
     {
         let registers = self.registers;
-        let at = place(right, page_of(address, self.exponent));
-        let field = read_field(fields, at);
-        let number = self.access_at(right, address, field);
+        let number = self.access_at(fields, width, right, address);
         let after = registers.or_where(number == 9, registers.with_pending(true));
         let mut violations = self.violations;
         if number == 9 {
@@ -157,9 +211,9 @@ impl Machine {
         }
     }
 
-    // Access to an address for a right (RULES 3.2, 3.3).
-    pub fn access(self, right: u8, address: u32) -> Answered
-        ensures { λ r. ⌜ r ≡ callOf self (Call.Access right address) ⌝ }
+    // Access to one byte or two from an address on, for a right (RULES 3.2, 3.3).
+    pub fn access(self, width: Width, right: u8, address: u32) -> Answered
+        ensures { λ r. ⌜ r ≡ callOf self (Call.Access width right address) ⌝ }
     {
         if !self.sound() {
             return Answered {
@@ -169,7 +223,7 @@ impl Machine {
             };
         }
         let fields = self.fields;
-        self.access_lent(&fields, right, address)
+        self.access_lent(&fields, width, right, address)
     }
 
     // The number of a grant or a revocation, from the field of that right to that page.

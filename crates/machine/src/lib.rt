@@ -15,5 +15,6 @@ pub use record::Program;
 pub use record::Report;
 pub use record::Violation;
 pub use record::Violations;
+pub use record::Width;
 pub use rules::registers::Mode;
 pub use rules::registers::Registers;

@@ -3,7 +3,7 @@ use rules::registers::Mode;
 use rules::registers::Registers;
 ghost use mathlib.Core.Path.{_≡_};
 ghost use mathlib.Core.Bool.{false};
-ghost use Prim.Native.Nat.{_*_, _^_, _/_};
+ghost use Prim.Native.Nat.{_+_, _*_, _^_, _/_};
 ghost use lib.Dec.{leb};
 ghost use lib.ListN.{getD, set};
 ghost use Rattle.rules.specs.Refusals.{pick};
@@ -70,9 +70,15 @@ pub struct Answered {
     pub report: Report,
 }
 
-// One of the twelve calls (RULES 2.1), with arguments of the widths of RULES 2.6.
+// How many bytes an access touches (RULES 3.2).
+pub enum Width {
+    One,
+    Two,
+}
+
+// One of the twelve calls (RULES 2.1), with arguments as RULES 2.6 has them.
 pub enum Call {
-    Access(u8, u32),
+    Access(Width, u8, u32),
     Grant(u8, Page, Domain),
     Revoke(u8, Page, Domain),
     SetMask(u16),
@@ -183,14 +189,19 @@ pub fn memory_size(pages: u16, exponent: u8) -> u32
     0
 }
 
-// The page of an address (RULES 1.9), of any exponent: past 31 places nothing is left of an address.
-pub fn page_of(address: u32, exponent: u8) -> u32
-    ensures { λ r. ⌜ r ≡ address / 2 ^ exponent ⌝ }
+// How far a byte's address is shifted for its page. 63 places leave nothing of it, as more would. This is no part of the address, so that a loop over
+// calls works it out once.
+fn shift_of(exponent: u8) -> u8
+    ensures { λ r. ⌜ r ≡ pick (leb exponent 63) exponent 63 ⌝ }
 {
-    if exponent < 32 {
-        return address >> exponent;
-    }
-    0
+    if exponent <= 63 { exponent } else { 63 }
+}
+
+// The page of the byte that stands so far ahead of an address (RULES 1.9), of any exponent. The sum has room in 64 bits, so that nothing wraps.
+pub fn page_of(address: u32, ahead: u8, exponent: u8) -> u64
+    ensures { λ r. ⌜ r ≡ (address + ahead) / 2 ^ exponent ⌝ }
+{
+    (address as u64 + ahead as u64) >> shift_of(exponent)
 }
 
 // Where the field of a right to a page stands (RULES 1.5), of any right and page.

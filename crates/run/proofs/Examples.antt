@@ -25,7 +25,7 @@ pub kinds-read :
     (record-of 0 (record-of 1 (record-of 2 (record-of 3 (record-of 4 (record-of 5 (record-of 6 (record-of 7 (record-of 8
     (record-of 9 (record-of 10 (record-of 11 (record-of 12 (record-of 13 (1 ∷ 1 ∷ 2 ∷ 3 ∷ 4 ∷ [])))))))))))))))
     ≡ Unknown
-    ∷ Known (Access 1 0x02030405)
+    ∷ Known (Access One 1 0x02030405)
     ∷ Known (Grant 1 (asPage 0x0203) (asDomain 0x0405))
     ∷ Known (Revoke 1 (asPage 0x0203) (asDomain 0x0405))
     ∷ Known (SetMask 0x0405)

@@ -25,7 +25,7 @@ use Rattle.run.specs.declared.records.Decoded.the-variants.{Known, Unkno
 -- a right above 1 is read as it stands, every part that a call does not use is passed over, and no kind past 12 is known
 pub parts-read :
     (map (λ (right : ℕ). callOfKind 1 right 0xFFFF 0xFFFE) (0 ∷ 1 ∷ 2 ∷ 255 ∷ [])
-    ≡ Known (Access 0 0xFFFFFFFE) ∷ Known (Access 1 0xFFFFFFFE) ∷ Known (Access 2 0xFFFFFFFE) ∷ Known (Access 255 0xFFFFFFFE) ∷ [])
+    ≡ Known (Access One 0 0xFFFFFFFE) ∷ Known (Access One 1 0xFFFFFFFE) ∷ Known (Access One 2 0xFFFFFFFE) ∷ Known (Access One 255 0xFFFFFFFE) ∷ [])
     × (map (λ (kind : ℕ). callOfKind kind 254 0xFFFF 0xFFFE) (2 ∷ 3 ∷ 4 ∷ 5 ∷ 6 ∷ 7 ∷ 8 ∷ 9 ∷ 10 ∷ 11 ∷ 12 ∷ [])
     ≡ Known (Grant 254 (record { 0 = 0xFFFF }) (record { 0 = 0xFFFE }))
     ∷ Known (Revoke 254 (record { 0 = 0xFFFF }) (record { 0 = 0xFFFE }))
@@ -53,7 +53,7 @@ pub records-cut :
     ∷ (1 ∷ 2 ∷ 0x12 ∷ 0x34 ∷ 0x56 ∷ 0x78 ∷ 6 ∷ [])
     ∷ (200 ∷ 0 ∷ 0 ∷ 0 ∷ 0 ∷ 0 ∷ 4 ∷ 0 ∷ 0x12 ∷ 0x34 ∷ 0x56 ∷ 0x78 ∷ 6 ∷ 0 ∷ 0 ∷ 0 ∷ 0 ∷ [])
     ∷ [])
-    ≡ (Known Enter ∷ []) ∷ (Known (Access 2 0x12345678) ∷ []) ∷ (Unknown ∷ Known (SetMask 0x5678) ∷ []) ∷ [])
+    ≡ (Known Enter ∷ []) ∷ (Known (Access One 2 0x12345678) ∷ []) ∷ (Unknown ∷ Known (SetMask 0x5678) ∷ []) ∷ [])
 unfolding callsOf callOfKind
 records-cut = (refl, refl)
 
@@ -65,7 +65,7 @@ small depth mask mode pending saved = whole 1 5 (1 ∷ 0 ∷ []) (live 1 mask mo
 pub steps-made :
     let m = small 0 1 User false (false ∷ []) in
     let deep = small 9 1 User false (false ∷ []) in
-    (map (stepOf m) (Unknown ∷ Known (SetMask 6) ∷ Known (Access 1 0) ∷ Known Enter ∷ Known Return ∷ [])
+    (map (stepOf m) (Unknown ∷ Known (SetMask 6) ∷ Known (Access One 1 0) ∷ Known Enter ∷ Known Return ∷ [])
     ≡ gives 18 m
     ∷ gives 0 (small 0 6 User false (false ∷ []))
     ∷ gives 9 (withLast (denied 0 1 0) (small 0 1 User true (false ∷ [])))

@@ -22,7 +22,7 @@ use Rattle.run.specs.declared.records.Decoded.the-variants.{Known, Unkno
 pub kinds-spelled : (right a b more : ℕ)
     → (map (λ kind. callOfKind kind right a b) (0 ∷ 1 ∷ 2 ∷ 3 ∷ 4 ∷ 5 ∷ 6 ∷ 7 ∷ 8 ∷ 9 ∷ 10 ∷ 11 ∷ 12 ∷ [])
     ≡ Unknown
-    ∷ Known (Access right (65536 * a + b))
+    ∷ Known (Access One right (65536 * a + b))
     ∷ Known (Grant right (record { 0 = a }) (record { 0 = b }))
     ∷ Known (Revoke right (record { 0 = a }) (record { 0 = b }))
     ∷ Known (SetMask b)

@@ -15,7 +15,7 @@ use Rattle.run.specs.declared.records.Decoded.the-variants.{Known, Unkno
 abbrev pub kinds : (right a b : ℕ) → List Decoded
 kinds right a b =
     Unknown
-    ∷ Known (Access right (65536 * a + b))
+    ∷ Known (Access One right (65536 * a + b))
     ∷ Known (Grant right (asPage a) (asDomain b))
     ∷ Known (Revoke right (asPage a) (asDomain b))
     ∷ Known (SetMask b)

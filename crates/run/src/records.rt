@@ -6,6 +6,7 @@ use machine::record::Domain;
 use machine::record::Machine;
 use machine::record::Page;
 use machine::record::Report;
+use machine::record::Width;
 ghost use mathlib.Core.Path.{_≡_};
 ghost use Prim.Native.Nat.{_+_, _*_, _≤_};
 ghost use lib.ListN.{length, getD};
@@ -32,7 +33,7 @@ pub fn call_of_kind(kind: u8, right: u8, a: u16, b: u16) -> Decoded
     ensures { λ r. ⌜ r ≡ callOfKind kind right a b ⌝ }
 {
     match kind {
-        1 => Decoded::Known(Call::Access(right, address_of(a, b))),
+        1 => Decoded::Known(Call::Access(Width::One, right, address_of(a, b))),
         2 => Decoded::Known(Call::Grant(right, Page(a), Domain(b))),
         3 => Decoded::Known(Call::Revoke(right, Page(a), Domain(b))),
         4 => Decoded::Known(Call::SetMask(b)),
@@ -44,6 +45,7 @@ pub fn call_of_kind(kind: u8, right: u8, a: u16, b: u16) -> Decoded
         10 => Decoded::Known(Call::StoreMask(b)),
         11 => Decoded::Known(Call::StoreMode(b)),
         12 => Decoded::Known(Call::AskViolation),
+        13 => Decoded::Known(Call::Access(Width::Two, right, address_of(a, b))),
         _ => Decoded::Unknown,
     }
 }
@@ -76,8 +78,8 @@ pub fn step(machine: Machine, fields: &mut [u16], saved: &mut [bool], decoded: D
         };
     };
     match call {
-        Call::Access(right, address) => {
-            return machine.access_lent(fields, right, address);
+        Call::Access(width, right, address) => {
+            return machine.access_lent(fields, width, right, address);
         }
         Call::Grant(right, page, domain) => {
             let number = machine.change_lent(fields, true, right, page, domain);

@@ -11,6 +11,7 @@ mod lengths;
 mod loader;
 mod questions;
 mod sample;
+mod words;
 
 use crate::histories;
 use crate::random::Random;
@@ -68,6 +69,7 @@ pub fn all() -> Vec<Case> {
     commands::add(&mut cases);
     kernel::add(&mut cases);
     questions::add(&mut cases);
+    words::add(&mut cases);
     loader::add(&mut cases);
     lengths::add(&mut cases);
     for seed in 1..=12 {

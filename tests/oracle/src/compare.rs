@@ -1,8 +1,10 @@
 //! Compares the oracle with the static library's bench on seeded random inputs.
 
+use crate::image::load;
 use crate::inputs;
 use crate::random::Random;
 use crate::run;
+use crate::sorts::{sort, SORTS};
 use std::process::ExitCode;
 
 extern "C" {
@@ -31,18 +33,21 @@ const CAN_OCCUR: [(&str, &[u8]); ROWS] = [
     ("mask store", &[0, 7]),
     ("mode store", &[0, 7, 17]),
     ("question", &[0, 7]),
+    ("access of two", &[0, 2, 3, 8, 9]),
 ];
 const LOAD_CAN_OCCUR: (&str, &[u8]) = ("load", &[0, 20, 21, 22, 23, 24, 25]);
 
 struct Table {
     load: [u64; 256],
     kinds: [[u64; 256]; ROWS],
+    /// The accesses of two bytes across an edge, by sort.
+    across: [u64; SORTS.len()],
     too_long: u64,
 }
 
 impl Table {
     fn new() -> Table {
-        Table { load: [0; 256], kinds: [[0; 256]; ROWS], too_long: 0 }
+        Table { load: [0; 256], kinds: [[0; 256]; ROWS], across: [0; SORTS.len()], too_long: 0 }
     }
 
     fn count(&mut self, input: &[u8], answers: &[u8]) {
@@ -55,6 +60,21 @@ impl Table {
         for (record, &answer) in records.chunks_exact(run::RECORD).zip(calls) {
             let kind = if record[0] <= run::LAST_KIND { record[0] } else { 0 };
             self.kinds[kind as usize][answer as usize] += 1;
+        }
+        self.count_across(input);
+    }
+
+    /// Which page denied is not told by an answer, so the records are stepped through once more.
+    fn count_across(&mut self, input: &[u8]) {
+        let (image, records) = run::split(input);
+        let Ok(mut machine) = load(image) else {
+            return;
+        };
+        for record in records.chunks_exact(run::RECORD) {
+            if let Some((_, sort)) = sort(&machine, record) {
+                self.across[sort] += 1;
+            }
+            run::step(&mut machine, record);
         }
     }
 
@@ -69,6 +89,14 @@ impl Table {
         let mut good = row(LOAD_CAN_OCCUR, &self.load);
         for kind in (1..ROWS).chain([0]) {
             good &= row(CAN_OCCUR[kind], &self.kinds[kind]);
+        }
+        println!("access of two bytes across an edge, by what the pages give in user mode:");
+        for (what, times) in SORTS.into_iter().zip(self.across) {
+            println!("{:14} {what}: {times}", "");
+            if times < LEAST {
+                println!("compare: across an edge, {what}, {times} times, fewer than {LEAST}");
+                good = false;
+            }
         }
         good
     }

@@ -150,13 +150,14 @@ impl History<'_> {
     }
 
     fn one_call(&mut self) {
-        // Access, grant, revoke, mask, entry, return, switch, the four stores, the question, an unknown kind.
+        // Access of one byte, grant, revoke, mask, entry, return, switch, the four stores, the question,
+        // access of two bytes, an unknown kind.
         let mut weights = match (self.machine.privileged(), self.machine.pending, self.machine.depth()) {
-            (false, false, _) => [30, 14, 14, 8, 9, 2, 3, 3, 2, 2, 3, 2, 1],
-            (false, true, _) => [6, 3, 3, 3, 20, 1, 1, 1, 1, 1, 2, 2, 1],
-            (true, _, 0) => [5, 2, 2, 2, 8, 3, 4, 5, 3, 3, 8, 4, 1],
-            (true, _, 1) => [4, 2, 2, 2, 4, 16, 16, 5, 3, 3, 3, 7, 1],
-            (true, _, _) => [4, 2, 2, 2, 6, 14, 4, 4, 2, 2, 3, 4, 1],
+            (false, false, _) => [18, 14, 14, 8, 9, 2, 3, 3, 2, 2, 3, 2, 18, 1],
+            (false, true, _) => [4, 3, 3, 3, 20, 1, 1, 1, 1, 1, 2, 2, 4, 1],
+            (true, _, 0) => [3, 2, 2, 2, 8, 3, 4, 5, 3, 3, 8, 4, 3, 1],
+            (true, _, 1) => [3, 2, 2, 2, 4, 16, 16, 5, 3, 3, 3, 7, 3, 1],
+            (true, _, _) => [3, 2, 2, 2, 6, 14, 4, 4, 2, 2, 3, 4, 3, 1],
         };
         if self.nesting {
             weights[ENTRY] *= 6;
@@ -164,7 +165,7 @@ impl History<'_> {
         }
         let kind = self.random.weighted(&weights) as u8 + 1;
         let record = match kind {
-            1 => self.an_access(),
+            1 | 13 => self.an_access(kind),
             2 | 3 => self.a_grant_or_revoke(kind),
             4 | 9 | 10 => record(kind, 0, 0, self.pool.bits(self.random)),
             5 | 6 => record(kind, 0, 0, 0),
@@ -246,11 +247,12 @@ impl History<'_> {
         }
     }
 
-    /// Never 13, which a later request makes a call.
+    /// 0, or a kind past the last one.
     fn an_unknown_kind(&mut self) -> u8 {
         let known = self.random.between(1, LAST_KIND.into()) as u8;
-        let other = self.random.between(14, 255) as u8;
-        self.random.pick(&[0, 14, 15, 255, 128 + known, 16 + known, other])
+        let next = LAST_KIND + 1;
+        let other = self.random.between(next.into(), 255) as u8;
+        self.random.pick(&[0, next, next + 1, 255, 128 + known, 16 + known, other])
     }
 
     /// A page and right with the wanted property, searched from a random place on.
@@ -267,40 +269,96 @@ impl History<'_> {
         None
     }
 
-    fn an_access(&mut self) -> Record {
-        let memory = self.machine.memory() as u32;
-        let inside = self.random.below(memory as usize) as u32;
-        match self.random.below(24) {
-            0 => return access(self.a_right(), memory - 1),
-            1 => return access(self.a_right(), memory),
-            2 => {
-                let far = (self.random.word() as u32) << 16;
-                let near = self.random.between(1, 300) as u32;
-                let address = self.random.pick(&[
-                    memory + near,
-                    0x1_0000 | inside,
-                    far | inside,
-                    0x0100_0000 | inside,
-                    u32::MAX,
-                    far,
-                ]);
-                return access(self.a_right(), address);
+    /// A right and an edge, as the number of the page behind it, of which the page in front and the
+    /// page behind give what is wanted, searched from a random place on. One page has no edge.
+    fn search_edge(&mut self, wanted: (bool, bool)) -> Option<(u8, u32)> {
+        let edges = self.machine.pages.len() as u32 - 1;
+        if edges == 0 {
+            return None;
+        }
+        let size = self.machine.page_size();
+        let (start, first_right) = (self.random.below(edges as usize) as u32, self.random.below(2) as u8);
+        for n in 0..2 * edges {
+            let (right, edge) = ((first_right + (n / edges) as u8) % 2, 1 + (start + n) % edges);
+            let behind = u64::from(edge) * size;
+            if (self.machine.gives(right, behind - 1), self.machine.gives(right, behind)) == wanted {
+                return Some((right, edge));
             }
-            3..=5 => return access(self.a_right(), inside),
+        }
+        None
+    }
+
+    /// An access of one byte or of two, kind 1 or kind 13.
+    fn an_access(&mut self, kind: u8) -> Record {
+        let memory = self.machine.memory() as usize;
+        match self.random.below(24) {
+            0..=2 => return access_of_kind(kind, self.a_right(), self.an_address_at_the_end()),
+            3..=5 => return access_of_kind(kind, self.a_right(), self.random.below(memory) as u32),
+            6..=8 => return access_of_kind(kind, self.a_right(), self.an_address_at_an_edge()),
             _ => {}
+        }
+        if kind == 13 && self.random.chance(75) {
+            // Across an edge. Where no edge has what is wanted, one is taken whose pages differ, if there is one.
+            let (both, first, second, neither) = ((true, true), (true, false), (false, true), (false, false));
+            let wanted = self.random.pick(&[both, both, both, first, second, neither]);
+            let tried = [wanted, first, second, both, neither];
+            if let Some((right, edge)) = tried.into_iter().find_map(|wanted| self.search_edge(wanted)) {
+                return access_two(right, edge * self.machine.page_size() as u32 - 1);
+            }
         }
         let open = self.search(|machine, field| field & machine.local_context() != 0);
         let shut = self.search(|machine, field| field & machine.local_context() == 0);
         let found = if self.random.chance(75) { open.or(shut) } else { shut.or(open) };
         let (right, page) = found.expect("every field is one or the other");
-        access(right, self.address_in(page))
+        access_of_kind(kind, right, self.address_in(page))
     }
 
-    /// An address in a page, often its first or its last.
+    /// An address in a page, often its first, its last or its last but one.
     fn address_in(&mut self, page: u16) -> u32 {
         let size = self.machine.page_size() as u32;
         let inside = self.random.below(size as usize) as u32;
-        u32::from(page) * size + self.random.pick(&[0, size - 1, inside])
+        u32::from(page) * size + self.random.pick(&[0, size - 1, size - 2, inside])
+    }
+
+    /// One of the two bytes in front of an edge, or the byte behind it. Where memory has one page
+    /// alone its end is the edge.
+    fn an_address_at_an_edge(&mut self) -> u32 {
+        let edges = (self.machine.pages.len() - 1).max(1);
+        let edge = self.random.between(1, edges) as u32;
+        edge * self.machine.page_size() as u32 - self.random.pick(&[0, 1, 2])
+    }
+
+    /// An address at the end of memory, past it, or at the end of all addresses.
+    fn an_address_at_the_end(&mut self) -> u32 {
+        let memory = self.machine.memory() as u32;
+        let inside = self.random.below(memory as usize) as u32;
+        let far = (self.random.word() as u32) << 16;
+        let near = self.random.between(1, 300) as u32;
+        self.random.pick(&[
+            memory - 2,
+            memory - 1,
+            memory - 1,
+            memory,
+            memory,
+            memory + near,
+            0x1_0000 | inside,
+            far | inside,
+            0x0100_0000 | inside,
+            far,
+            u32::MAX - 1,
+            u32::MAX,
+        ])
+    }
+
+    /// An access to a page and to no other, of one byte or of two.
+    fn an_access_within(&mut self, right: u8, page: u16) -> Record {
+        let size = self.machine.page_size() as u32;
+        let start = u32::from(page) * size;
+        if self.random.chance(50) {
+            return access(right, self.address_in(page));
+        }
+        let inside = self.random.below(size as usize - 1) as u32;
+        access_two(right, start + self.random.pick(&[0, 1, size - 2, inside]))
     }
 
     fn a_grant_or_revoke(&mut self, kind: u8) -> Record {
@@ -353,8 +411,8 @@ impl History<'_> {
             self.put(store_context(domains));
             self.put(store_mask(0xFFFF));
             self.enter_user_mode();
-            let address = self.address_in(page);
-            self.put(access(right, address));
+            let record = self.an_access_within(right, page);
+            self.put(record);
         }
     }
 
@@ -385,8 +443,8 @@ impl History<'_> {
                 self.put(if show_context { store_mask(0xFFFF) } else { store_context(0xFFFF) });
             }
             self.put(return_call());
-            let address = self.address_in(page);
-            self.put(access(right, address));
+            let record = self.an_access_within(right, page);
+            self.put(record);
         }
     }
 
@@ -421,12 +479,9 @@ impl History<'_> {
             self.put(switch(program as u16));
             self.put(return_call());
         }
-        let shut = self.search(|machine, field| field & machine.local_context() == 0);
-        if let Some((right, page)) = shut {
-            // Any byte of the page, so that the page in place of the address would show.
-            let size = self.machine.page_size() as usize;
-            let address = usize::from(page) * size + self.random.below(size);
-            self.put(access(right, address as u32));
+        let record = self.a_denied_access();
+        if let Some(record) = record {
+            self.put(record);
         }
         if self.random.chance(20) {
             self.ask();
@@ -452,6 +507,25 @@ impl History<'_> {
         if self.random.chance(80) {
             self.put(return_call());
         }
+    }
+
+    /// An access that user mode is denied, if there is one: of two bytes where one of two pages or
+    /// both deny it, or of one byte or two of one page.
+    fn a_denied_access(&mut self) -> Option<Record> {
+        let size = self.machine.page_size() as u32;
+        if self.random.chance(50) {
+            let first = self.random.pick(&[(true, false), (false, true), (false, false)]);
+            let tried = [first, (true, false), (false, true)];
+            if let Some((right, edge)) = tried.into_iter().find_map(|wanted| self.search_edge(wanted)) {
+                return Some(access_two(right, edge * size - 1));
+            }
+        }
+        let (right, page) = self.search(|machine, field| field & machine.local_context() == 0)?;
+        // Any place in the page, so that the page in place of the address would show.
+        let kind = self.random.pick(&[1, 1, 1, 13]);
+        let places = if kind == 1 { size } else { size - 1 };
+        let place = self.random.below(places as usize) as u32;
+        Some(access_of_kind(kind, right, u32::from(page) * size + place))
     }
 
     fn ask(&mut self) {

@@ -1,4 +1,4 @@
-//! The machine and its twelve calls (RULES, sections 1 to 3).
+//! The machine and its calls (RULES, sections 1 to 3).
 //!
 //! The lists are as long as the counts say, so that there is nothing past a count or
 //! the depth here. No answer of a run depends on it.
@@ -26,6 +26,26 @@ pub enum Mode {
     Privileged,
 }
 
+/// How many bytes an access touches.
+#[derive(Clone, Copy, PartialEq, Eq, Debug)]
+pub enum Width {
+    One,
+    Two,
+}
+
+impl Width {
+    /// The bytes touched by an access at an address: that one, or that one and the next (RULES 3.2).
+    /// They are counted in 64 bits, so that the byte after the last 32-bit address is just one that
+    /// no memory has, and never byte 0.
+    pub fn touched(self, address: u32) -> Vec<u64> {
+        let first = u64::from(address);
+        match self {
+            Width::One => vec![first],
+            Width::Two => vec![first, first + 1],
+        }
+    }
+}
+
 /// The two fields of a page. Bit s of a field is domain s.
 #[derive(Clone, Copy, PartialEq, Eq, Debug)]
 pub struct Fields {
@@ -42,7 +62,7 @@ pub struct Program {
 }
 
 /// Who was denied what (RULES 1.16). The address is the one that the access named, all of it,
-/// since the page alone would not tell which byte was wanted.
+/// since the page alone would not tell which byte was wanted. Of two bytes it is the first one's.
 #[derive(Clone, Copy, PartialEq, Eq, Debug)]
 pub struct Violation {
     pub program: usize,
@@ -126,6 +146,17 @@ impl Machine {
         self.saved.len()
     }
 
+    /// The page that has a byte. Only for a byte in memory.
+    pub fn page_of(&self, byte: u64) -> Page {
+        Page((byte / self.page_size()) as u16)
+    }
+
+    /// Whether the page of a byte gives a right through the local context. Only for a right of 0
+    /// or 1 and a byte in memory.
+    pub fn gives(&self, right: u8, byte: u64) -> bool {
+        self.field(right, self.page_of(byte)) & self.local_context() != 0
+    }
+
     /// Only for a right of 0 or 1 and a page below the page count.
     pub fn field(&self, right: u8, page: Page) -> u16 {
         let fields = &self.pages[page.0 as usize];
@@ -189,17 +220,20 @@ impl Machine {
         refuse_if(self.pending, 8)
     }
 
-    pub fn access(&mut self, right: u8, address: u32) -> Answer {
+    /// An access of either width: one rule over the list of bytes it touches (RULES 3.2, 3.3). Each
+    /// byte's page is asked by itself, so that what one page gives is of no use to the other.
+    pub fn access(&mut self, width: Width, right: u8, address: u32) -> Answer {
+        let touched = width.touched(address);
         self.refuse_unsound()?;
         self.refuse_right(right)?;
-        refuse_if(u64::from(address) >= self.memory(), 3)?;
+        refuse_if(touched.iter().any(|&byte| byte >= self.memory()), 3)?;
         if self.privileged() {
             return Ok(());
         }
         self.refuse_pending()?;
-        let page = Page((u64::from(address) / self.page_size()) as u16);
-        if self.field(right, page) & self.local_context() == 0 {
-            // The only place that sets it: a later violation takes the place of an earlier one (RULES 3.3).
+        if !touched.iter().all(|&byte| self.gives(right, byte)) {
+            // The only place that sets it: a later violation takes the place of an earlier one. There
+            // is one for the access as a whole, at its first byte, whichever page denied it.
             self.last_violation = Some(Violation { program: self.current, right, address });
             self.pending = true;
             return Err(9);

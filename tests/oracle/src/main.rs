@@ -10,6 +10,8 @@ mod machine;
 mod random;
 mod rounds;
 mod run;
+#[cfg(any(test, feature = "linked"))]
+mod sorts;
 mod stored;
 #[cfg(test)]
 mod tests;

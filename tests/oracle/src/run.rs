@@ -1,17 +1,18 @@
 //! The record decoder and the whole run: the answers, the text, the bench's answers.
 
 use crate::image::load;
-use crate::machine::{Domain, Machine, Page, Violation};
+use crate::machine::{Domain, Machine, Page, Violation, Width};
 
 pub const LONGEST_INPUT: usize = 32_768;
 pub const RECORD: usize = 6;
 /// The kinds from 1 to this one are calls (RULES 6.5).
-pub const LAST_KIND: u8 = 12;
+pub const LAST_KIND: u8 = 13;
 
-/// The question for the last violation takes nothing from its record.
+/// Kinds 1 and 13 are one call of two widths. The question for the last violation takes nothing
+/// from its record.
 #[derive(Clone, Copy, PartialEq, Eq, Debug)]
 pub enum Call {
-    Access { right: u8, address: u32 },
+    Access { width: Width, right: u8, address: u32 },
     Grant { right: u8, page: Page, domain: Domain },
     Revoke { right: u8, page: Page, domain: Domain },
     Mask { mask: u16 },
@@ -41,13 +42,14 @@ impl Outcome {
     }
 }
 
-/// Reads six bytes: kind, right, A, B. A kind outside 1 to 12 is no call.
+/// Reads six bytes: kind, right, A, B. A kind outside 1 to 13 is no call (RULES 6.5, 6.6).
 pub fn decode(record: &[u8]) -> Option<Call> {
     let right = record[1];
     let a = u16::from(record[2]) * 256 + u16::from(record[3]);
     let b = u16::from(record[4]) * 256 + u16::from(record[5]);
+    let address = u32::from(a) * 65_536 + u32::from(b);
     match record[0] {
-        1 => Some(Call::Access { right, address: u32::from(a) * 65_536 + u32::from(b) }),
+        1 => Some(Call::Access { width: Width::One, right, address }),
         2 => Some(Call::Grant { right, page: Page(a), domain: Domain(b) }),
         3 => Some(Call::Revoke { right, page: Page(a), domain: Domain(b) }),
         4 => Some(Call::Mask { mask: b }),
@@ -59,13 +61,14 @@ pub fn decode(record: &[u8]) -> Option<Call> {
         10 => Some(Call::StoreMask { mask: b }),
         11 => Some(Call::StoreMode { number: b }),
         12 => Some(Call::Question),
+        13 => Some(Call::Access { width: Width::Two, right, address }),
         _ => None,
     }
 }
 
 fn obey(machine: &mut Machine, call: Call) -> Outcome {
     let answer = match call {
-        Call::Access { right, address } => machine.access(right, address),
+        Call::Access { width, right, address } => machine.access(width, right, address),
         Call::Grant { right, page, domain } => machine.grant(right, page, domain),
         Call::Revoke { right, page, domain } => machine.revoke(right, page, domain),
         Call::Mask { mask } => machine.mask_command(mask),

@@ -1,14 +1,15 @@
 //! The sample and the starred cases (RULES 5.12, 5.13, 6.11) with their numbers, the stored cases,
-//! the writer with what its promises say of it (RULES 5.14 to 5.18), and the last violation with
-//! the question for it (RULES 1.11, 1.16, 3.3, 3.24, 3.25).
+//! the writer with what its promises say of it (RULES 5.14 to 5.18), the last violation with the
+//! question for it (RULES 1.11, 1.16, 3.3, 3.24, 3.25), and accesses of both widths (RULES 3.2, 3.3).
 
 use crate::cases::{self, sample};
 use crate::histories::{legal, legal_plan};
 use crate::image::load;
-use crate::machine::{prevailing, Domain, Fields, Machine, Mode, Page, Program, Violation, READ, WRITE};
+use crate::machine::{prevailing, Domain, Fields, Machine, Mode, Page, Program, Violation, Width, READ, WRITE};
 use crate::random::Random;
 use crate::rounds::{rounds, take_apart};
-use crate::run::{answers, split, step, text, Outcome, LAST_KIND, RECORD};
+use crate::run::{answers, decode, split, step, text, Call, Outcome, LAST_KIND, RECORD};
+use crate::sorts::{sort, SORTS};
 use crate::stored::{self, RUN, WRITING};
 use crate::writer::{write_image, Written};
 use crate::writes::{self, many};
@@ -70,11 +71,11 @@ fn the_stored_cases_start_with_the_sample() {
 #[test]
 fn the_starred_cases() {
     let (zero, one, two) = (Page(0), Page(1), Page(2));
-    assert_eq!(loaded().access(READ, 256), Ok(()));
-    assert_eq!(loaded().access(WRITE, 256), Ok(()));
-    assert_eq!(loaded().access(WRITE, 0), Err(9));
-    assert_eq!(loaded().access(READ, 767), Err(9));
-    assert_eq!(loaded().access(READ, 768), Err(3));
+    assert_eq!(loaded().access(Width::One, READ, 256), Ok(()));
+    assert_eq!(loaded().access(Width::One, WRITE, 256), Ok(()));
+    assert_eq!(loaded().access(Width::One, WRITE, 0), Err(9));
+    assert_eq!(loaded().access(Width::One, READ, 767), Err(9));
+    assert_eq!(loaded().access(Width::One, READ, 768), Err(3));
     assert_eq!(loaded().grant(READ, zero, Domain(0)), Err(12));
     assert_eq!(loaded().grant(WRITE, zero, Domain(3)), Err(11));
     let mut machine = loaded();
@@ -95,7 +96,8 @@ fn an_unsound_machine_is_refused_before_anything_else() {
     machine.pending = true;
     machine.mode = Mode::Privileged;
     let before = machine.clone();
-    assert_eq!(machine.access(2, 768), Err(1));
+    assert_eq!(machine.access(Width::One, 2, 768), Err(1));
+    assert_eq!(machine.access(Width::Two, 2, 767), Err(1));
     assert_eq!(machine.grant(2, Page(3), Domain(16)), Err(1));
     assert_eq!(machine.revoke(2, Page(3), Domain(16)), Err(1));
     assert_eq!(machine.mask_command(0), Err(1));
@@ -140,7 +142,8 @@ fn a_stored_violation_at_the_edges_of_what_is_sound() {
             let before = machine.clone();
             assert_eq!(machine.question(), Err(1));
             assert_eq!(step(&mut machine, &[12, 0, 0, 0, 0, 0]), Outcome::Question(1, None));
-            assert_eq!(machine.access(READ, 512), Err(1));
+            assert_eq!(machine.access(Width::One, READ, 512), Err(1));
+            assert_eq!(machine.access(Width::Two, READ, 511), Err(1));
             assert_eq!(machine.interrupt_entry(), Err(1));
             assert_eq!(machine, before);
             write_refused(&machine, 1, &[0, 44]);
@@ -153,7 +156,7 @@ fn a_stored_violation_at_the_edges_of_what_is_sound() {
 
 #[test]
 fn a_violation_sets_the_last_violation_and_no_other_answer_changes_it() {
-    let (mut violations, mut asked, mut refused) = (0, 0, 0);
+    let (mut violations, mut asked, mut refused) = ([0, 0], 0, 0);
     for seed in 0..100 {
         let input = legal(&mut Random::new(seed), 150);
         let (image, records) = split(&input);
@@ -163,7 +166,8 @@ fn a_violation_sets_the_last_violation_and_no_other_answer_changes_it() {
             let outcome = step(&mut machine, record);
             assert!(machine.sound());
             if outcome.number() == 9 {
-                violations += 1;
+                assert!(record[0] == 1 || record[0] == 13);
+                violations[usize::from(record[0] == 13)] += 1;
                 let address = u32::from_be_bytes([record[2], record[3], record[4], record[5]]);
                 let violation = Violation { program: before.current, right: record[1], address };
                 assert_eq!(machine, Machine { pending: true, last_violation: Some(violation), ..before });
@@ -179,7 +183,8 @@ fn a_violation_sets_the_last_violation_and_no_other_answer_changes_it() {
             }
         }
     }
-    assert!(violations >= 500 && asked >= 300 && refused >= 50, "{violations}, {asked}, {refused}");
+    assert!(violations.iter().all(|&times| times >= 500), "{violations:?}");
+    assert!(asked >= 300 && refused >= 50, "{asked}, {refused}");
 }
 
 #[test]
@@ -214,7 +219,7 @@ fn the_stored_cases_reach_every_answer_that_can_occur() {
             reached.insert((if record[0] <= LAST_KIND { record[0] } else { 0 }, *answer));
         }
     }
-    let can_occur: [(u8, &[u8]); 13] = [
+    let can_occur: [(u8, &[u8]); 14] = [
         (0, &[18]),
         (1, &[0, 2, 3, 8, 9]),
         (2, &[0, 2, 4, 5, 6, 8, 11, 12]),
@@ -228,6 +233,7 @@ fn the_stored_cases_reach_every_answer_that_can_occur() {
         (10, &[0, 7]),
         (11, &[0, 7, 17]),
         (12, &[0, 7]),
+        (13, &[0, 2, 3, 8, 9]),
     ];
     let expected: BTreeSet<(u8, u8)> =
         can_occur.iter().flat_map(|(kind, list)| list.iter().map(|answer| (*kind, *answer))).collect();
@@ -445,19 +451,187 @@ fn random_cases_of_the_writer_ask_after_violations_of_all_sorts() {
 }
 
 #[test]
-fn no_case_has_a_record_of_kind_13() {
-    // It is unknown now, but a later request makes it a call, and the cases are to stay good.
-    let random = (0..400).map(|number| many::case(&mut Random::numbered(1, number)));
-    let writes = writes::all().into_iter().map(|case| case.bytes).chain(random);
-    let inputs = writes.map(|case| take_apart(&case).1.to_vec());
-    let runs = cases::all().into_iter().map(|case| case.input);
-    let random = (0..100).map(|seed| legal(&mut Random::new(seed), 150));
-    for input in inputs.chain(runs).chain(random) {
-        let (image, records) = split(&input);
-        // After a refused load no record is read.
-        if load(image).is_ok() {
-            assert!(records.chunks_exact(RECORD).all(|record| record[0] != 13));
+fn kinds_1_to_13_are_calls_and_no_others() {
+    let mut calls = Vec::new();
+    for kind in 0..=255 {
+        let record = [kind, 0, 0, 0, 1, 5];
+        let mut machine = loaded();
+        match decode(&record) {
+            Some(call) => calls.push((kind, call)),
+            None => {
+                assert_eq!(step(&mut machine, &record), Outcome::Number(18));
+                assert_eq!(machine, loaded());
+            }
         }
+    }
+    assert!(calls.iter().map(|call| call.0).eq(1..=13));
+    assert_eq!(calls[0].1, Call::Access { width: Width::One, right: READ, address: 0x0105 });
+    assert_eq!(calls[12].1, Call::Access { width: Width::Two, right: READ, address: 0x0105 });
+    let last = Call::Access { width: Width::Two, right: 255, address: 0xFEDC_BA98 };
+    assert_eq!(decode(&[13, 255, 0xFE, 0xDC, 0xBA, 0x98]), Some(last));
+}
+
+#[test]
+fn the_bytes_touched() {
+    assert_eq!(Width::One.touched(7), [7]);
+    assert_eq!(Width::Two.touched(7), [7, 8]);
+    assert_eq!(Width::One.touched(u32::MAX), [0xFFFF_FFFF]);
+    assert_eq!(Width::Two.touched(u32::MAX), [0xFFFF_FFFF, 0x1_0000_0000]);
+}
+
+/// The answer of an access of two bytes, made from those that each byte gets by itself on the same
+/// machine: the earlier refusal counts, and 8 comes before 9.
+fn from_single_bytes(machine: &Machine, right: u8, address: u32) -> u8 {
+    let alone = |address| match machine.clone().access(Width::One, right, address) {
+        Ok(()) => 0,
+        Err(number) => number,
+    };
+    // Behind the last address there is no byte.
+    let second = address.checked_add(1).map_or(3, alone);
+    let both = [alone(address), second];
+    [2, 3, 8, 9].into_iter().find(|number| both.contains(number)).unwrap_or(0)
+}
+
+#[test]
+fn an_access_of_two_bytes_is_allowed_where_both_single_bytes_are() {
+    let mut reached = BTreeSet::new();
+    for seed in 0..400 {
+        let mut random = Random::new(seed);
+        let mut machine = load(&legal_plan(&mut random).image()).expect("the image is legal");
+        machine.current = random.below(machine.programs.len());
+        machine.mode = random.pick(&[Mode::User, Mode::User, Mode::Privileged]);
+        machine.pending = machine.mode == Mode::User && random.chance(20);
+        let (size, memory) = (machine.page_size() as u32, machine.memory() as u32);
+        let edges = (1..=memory / size).flat_map(|page| [2, 1, 0].map(|back| page * size - back));
+        let others = [0, 1, 0x0000_FFFF, 0x0001_0000, memory + 1, u32::MAX - 1, u32::MAX];
+        for address in edges.chain(others) {
+            for right in [READ, WRITE, 2, 255] {
+                let due = from_single_bytes(&machine, right, address);
+                let mut after = machine.clone();
+                assert_eq!(after.access(Width::Two, right, address).err().unwrap_or(0), due);
+                let mut expected = machine.clone();
+                if due == 9 {
+                    expected.pending = true;
+                    expected.last_violation = Some(Violation { program: machine.current, right, address });
+                }
+                assert_eq!(after, expected);
+                reached.insert((machine.mode == Mode::User, due));
+            }
+        }
+    }
+    let user = [0, 2, 3, 8, 9].map(|number| (true, number));
+    let privileged = [0, 2, 3].map(|number| (false, number));
+    assert_eq!(reached, user.into_iter().chain(privileged).collect());
+}
+
+/// The right and the sort of each access of two bytes across an edge, and its answer.
+fn across(input: &[u8]) -> Vec<(u8, usize, u8)> {
+    let (image, records) = split(input);
+    let Ok(mut machine) = load(image) else {
+        return vec![];
+    };
+    let mut list = Vec::new();
+    for record in records.chunks_exact(RECORD) {
+        let sort = sort(&machine, record);
+        let answer = step(&mut machine, record).number();
+        list.extend(sort.map(|(right, sort)| (right, sort, answer)));
+    }
+    list
+}
+
+/// How often each sort came with each right. The sort tells the answer.
+fn counts(list: &[(u8, usize, u8)]) -> [[usize; SORTS.len()]; 2] {
+    let mut counts = [[0; SORTS.len()]; 2];
+    for &(right, sort, answer) in list {
+        assert_eq!(answer, if sort == 0 { 0 } else { 9 });
+        counts[usize::from(right)][sort] += 1;
+    }
+    counts
+}
+
+#[test]
+fn the_stored_runs_go_across_every_edge_of_every_page_size() {
+    let cases = cases::all();
+    let mut runs = cases.iter().filter(|case| case.purpose.contains("around every edge"));
+    for (exponent, count, least) in
+        [(5, 128, 3), (6, 128, 3), (7, 128, 3), (8, 128, 3), (9, 128, 3), (10, 64, 2), (11, 32, 2), (12, 16, 1)]
+    {
+        let case = runs.next().expect("there is a run for each exponent");
+        let (image, records) = split(&case.input);
+        assert_eq!((image[19], u32::from(image[18])), (exponent, count));
+        let size = 1 << exponent;
+        let accesses = records.chunks_exact(RECORD).filter(|record| record[0] == 13);
+        let touched: Vec<u32> =
+            accesses.map(|record| u32::from_be_bytes([record[2], record[3], record[4], record[5]])).collect();
+        let mut due: Vec<u32> = (1..count).flat_map(|page| [2, 1, 0].map(|back| page * size - back)).collect();
+        due.extend([count * size - 1; 2]);
+        assert_eq!(touched, due, "exponent {exponent}");
+        let list = across(&case.input);
+        assert_eq!(list.len() as u32, count - 1);
+        let counts = counts(&list);
+        assert!(counts.iter().flatten().all(|&times| times >= least), "exponent {exponent}: {counts:?}");
+    }
+    assert!(runs.next().is_none());
+}
+
+#[test]
+fn random_inputs_go_across_edges_of_all_sorts() {
+    for seed in 1..=5 {
+        let runs: Vec<_> = (0..200).map(|number| legal(&mut Random::numbered(seed, number), 150)).collect();
+        let list: Vec<_> = runs.iter().flat_map(|input| across(input)).collect();
+        let counts = counts(&list);
+        assert!(counts.iter().flatten().all(|&times| times >= 20), "seed {seed}: {counts:?}");
+
+        let (mut widths, mut answers_to_two) = ([0, 0], BTreeSet::new());
+        let mut ends = [0; 5];
+        for input in &runs {
+            let (image, records) = split(input);
+            let memory = load(image).expect("the image is legal").memory() as u32;
+            for (record, answer) in records.chunks_exact(RECORD).zip(&answers(input)[1..]) {
+                widths[0] += usize::from(record[0] == 1);
+                if record[0] == 13 {
+                    widths[1] += 1;
+                    answers_to_two.insert(*answer);
+                    let address = u32::from_be_bytes([record[2], record[3], record[4], record[5]]);
+                    for (end, times) in [memory - 2, memory - 1, memory, u32::MAX - 1, u32::MAX].iter().zip(&mut ends) {
+                        *times += usize::from(address == *end);
+                    }
+                }
+            }
+        }
+        assert_eq!(answers_to_two, BTreeSet::from([0, 2, 3, 8, 9]), "seed {seed}");
+        assert!(4 * widths[0] >= 3 * widths[1] && 4 * widths[1] >= 3 * widths[0], "seed {seed}: {widths:?}");
+        assert!(ends.iter().all(|&times| times >= 10), "seed {seed}: {ends:?}");
+    }
+}
+
+#[test]
+fn random_cases_of_the_writer_ask_after_violations_of_two_bytes() {
+    for seed in 1..=20 {
+        // By how the violation that is handed out came about: one byte, two of one page, and the sorts.
+        let mut handed_out = [0; 2 + SORTS.len()];
+        for number in 0..400 {
+            let case = many::case(&mut Random::numbered(seed, number));
+            let (image, records) = split(take_apart(&case).1);
+            let Ok(mut machine) = load(image) else {
+                continue;
+            };
+            let mut how = 0;
+            for record in records.chunks_exact(RECORD) {
+                let sort = sort(&machine, record);
+                let outcome = step(&mut machine, record);
+                if outcome.number() == 9 {
+                    how = if record[0] == 1 { 0 } else { sort.map_or(1, |(_, sort)| 2 + sort) };
+                }
+                handed_out[how] += usize::from(matches!(outcome, Outcome::Question(0, Some(_))));
+            }
+        }
+        // The sort of an access that is allowed comes third.
+        let [_, _, 0, ..] = handed_out else {
+            panic!("seed {seed}: {handed_out:?}");
+        };
+        let least = handed_out.iter().enumerate().filter(|&(how, _)| how != 2).map(|(_, &times)| times).min();
+        assert!(least >= Some(10), "seed {seed}: {handed_out:?}");
     }
 }
 

@@ -60,8 +60,13 @@ pub fn record(kind: u8, right: u8, a: u16, b: u16) -> Record {
     [kind, right, high(a), low(a), high(b), low(b)]
 }
 
+/// An access of one byte, kind 1, or of two, kind 13: their records are alike but for the kind.
+pub fn access_of_kind(kind: u8, right: u8, address: u32) -> Record {
+    record(kind, right, (address / 65_536) as u16, (address % 65_536) as u16)
+}
+
 pub fn access(right: u8, address: u32) -> Record {
-    record(1, right, (address / 65_536) as u16, (address % 65_536) as u16)
+    access_of_kind(1, right, address)
 }
 
 pub fn read(address: u32) -> Record {
@@ -70,6 +75,18 @@ pub fn read(address: u32) -> Record {
 
 pub fn write(address: u32) -> Record {
     access(WRITE, address)
+}
+
+pub fn access_two(right: u8, address: u32) -> Record {
+    access_of_kind(13, right, address)
+}
+
+pub fn read_two(address: u32) -> Record {
+    access_two(READ, address)
+}
+
+pub fn write_two(address: u32) -> Record {
+    access_two(WRITE, address)
 }
 
 pub fn grant(right: u8, page: u16, domain: u16) -> Record {

@@ -493,6 +493,7 @@ fn flag_set(cases: &mut Cases) {
     let refused = vec![
         (read(0), 8),
         (read(768), 3),
+        (read_two(255), 8),
         (grant(READ, 0, 4), 8),
         (revoke(READ, 0, 3), 8),
         (mask(0x0007), 8),

@@ -561,8 +561,8 @@ fn register_stores(cases: &mut Cases) {
 }
 
 fn unknown_kinds(cases: &mut Cases) {
-    // 13 is left out, since a later request makes it a call. 129 and 140 are known but for their highest bit.
-    for kind in [0, 14, 15, 129, 140, 255] {
+    // 129, 140 and 141 are known but for their highest bit.
+    for kind in [0, 14, 15, 129, 140, 141, 255] {
         cases.run(
             &format!("18: kind {kind} in user mode, in privileged mode and with the flag set; nothing changes"),
             &sample(),

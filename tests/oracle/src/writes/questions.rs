@@ -25,17 +25,17 @@ pub fn add(writes: &mut Writes) {
 }
 
 /// An interrupt in which nothing is done but asked.
-fn ask() -> Vec<Step> {
+pub fn ask() -> Vec<Step> {
     in_interrupt(&[(question(), 0)])
 }
 
 /// From user mode with the flag clear or set: each step, and after each an interrupt that asks.
-fn asked_after_each(steps: &[Step]) -> Vec<Step> {
+pub fn asked_after_each(steps: &[Step]) -> Vec<Step> {
     steps.iter().flat_map(|&step| [vec![step], ask()].concat()).collect()
 }
 
 /// In privileged mode: each step, and a question after each.
-fn question_after_each(steps: &[Step]) -> Vec<Step> {
+pub fn question_after_each(steps: &[Step]) -> Vec<Step> {
     steps.iter().flat_map(|&step| [step, (question(), 0)]).collect()
 }
 
@@ -247,7 +247,7 @@ fn exponents(writes: &mut Writes) {
 }
 
 /// All may read page 0 and write page 1, none may do the other.
-fn eight_in_user_mode() -> Plan {
+pub fn eight_in_user_mode() -> Plan {
     Plan {
         exponent: 5,
         pages: vec![(0x00FF, 0x0000), (0x0000, 0x00FF)],
@@ -255,7 +255,7 @@ fn eight_in_user_mode() -> Plan {
     }
 }
 
-const EIGHT_BYTES: [Bytes; 3] = [
+pub const EIGHT_BYTES: [Bytes; 3] = [
     (0, "01 00 00 12 00 04  02 00 00 16 00 08  03 00 00 1E 00 28  02 05 08 00  00 FF 00 00  00 00 00 FF"),
     (30, "00 01 FF FF 00  00 02 FF FF 00  00 04 FF FF 00  00 08 FF FF 00"),
     (50, "00 10 FF FF 00  00 20 FF FF 00  00 40 FF FF 00  00 80 FF FF 00"),

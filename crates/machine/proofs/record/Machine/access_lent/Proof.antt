@@ -1,4 +1,4 @@
--- `Machine::access_lent` meets its contract: it changes the flag and the last violation alone, and its number is that of the field it read.
+-- `Machine::access_lent` meets its contract: it changes the flag and the last violation alone, and its number is that of the conditions.
 use mathlib.Core.Path.{ap, _∙_}
 use mathlib.Core.Logic.{⊎-elim}
 use borrow.Author.Tests.{eq-eqb, ne-eqb}
@@ -14,19 +14,16 @@ returns : tie.Need-returns
 unfolding checksOf accessChecks
 returns c =
     let start : tie.Start = (search) in
-    let paging : tie.After-page-of = (search) in
-    let placing : tie.After-place = (search) in
-    let reading : tie.After-read-field = (search) in
     let numbering : tie.After-access-at = (search) in
     let choosing : tie.After-or-where = (search) in
     let a = start .args in
     let n = numbering .access-at .result in
     ap (keeping (a .self))
-    (access-answered (withFields (a .fields .now) (a .self)) (a .right) (a .address)
-    (rw (numbering .access-at .ensures, reading .read-field .ensures, placing .place .ensures, paging .page-of .ensures))
+    (access-answered (withFields (a .fields .now) (a .self)) (a .width) (a .right) (a .address)
+    (numbering .access-at .ensures)
     (rw (choosing .or-where .ensures, choosing .before .with-pending .ensures))
     (⊎-elim (λ w. ap (λ (v : Violations). v .last) (w .1) ∙ rw (eq-eqb n 9 (w .0 .taken))) (λ w. ap (λ (v : Violations). v .last) (w .1) ∙ rw (ne-eqb n 9 (w .0 .left)))
     (c .if1 .came)))
 
 pub access-lent-spec : {M : Type 1} → statement M
-access-lent-spec = tie.close (tie.spec (λ c κs. search needs) (λ c κs. search needs) (λ c κs. search needs) (λ c κs. search needs) (λ c κs. search needs) (λ c κs. search needs) returns)
+access-lent-spec = tie.close (tie.spec (λ c κs. search needs) (λ c κs. search needs) (λ c κs. search needs) returns)

@@ -1,0 +1,15 @@
+-- `machine::calls::any_denied` meets its contract: for each width its tests are those of the bytes touched.
+use borrow.Author.Needs.{needs}
+use mathlib.Core.Path.{sym, _∙_}
+use Rattle.machine.proofs.Touched.{any-one, any-two}
+use Rattle.machine.proofs.calls.any_denied.Statement.{statement}
+use Rattle.machine.proofs.calls.any_denied.Tie as tie
+
+returns : tie.Need-returns
+returns c = c .denied .ensures ∙ sym (any-one _ _ (c .before .enum-told .given .1))
+
+returns-2 : tie.Need-returns-2
+returns-2 c = rw (c .before .denied2 .ensures, c .denied3 .ensures) (sym (any-two _ _ (c .before .before .enum-told2 .given .1)))
+
+pub any-denied-spec : {M : Type 1} → statement M
+any-denied-spec = tie.close (tie.spec (λ c. search needs) (λ c κs. search needs) (λ c. search needs) (λ c κs. search needs) (λ c κs. search needs) returns returns-2)

@@ -1,0 +1,27 @@
+-- `machine::calls::denied` meets its contract: a page is no greater than its byte, so that the place of its field has room.
+use borrow.Author.Needs.{needs}
+use Prim.Native.Nat.{_+_, _^_}
+use native.Mathlib.Nat.{div-le-self}
+use native.Mathlib.Omega.{arith}
+use Rattle.machine.proofs.calls.denied.Statement.{statement}
+use Rattle.machine.proofs.calls.denied.Tie as tie
+
+mul-read-field : tie.Need-mul-read-field
+mul-read-field c =
+    let a = c .before .before .args in
+    let page = div-le-self (a .address + a .ahead) (2 ^ a .exponent) in
+    let found = c .page-of .ensures in
+    omega (arith, page, found)
+
+add-read-field : tie.Need-add-read-field
+add-read-field c =
+    let a = c .before .before .args in
+    let page = div-le-self (a .address + a .ahead) (2 ^ a .exponent) in
+    let found = c .page-of .ensures in
+    omega (arith, page, found)
+
+returns : tie.Need-returns
+returns c = rw (c .read-field .ensures, c .before .page-of .ensures)
+
+pub denied-spec : {M : Type 1} → statement M
+denied-spec = tie.close (tie.spec (λ c κs. search needs) mul-read-field add-read-field (λ c κs. search needs) returns)
