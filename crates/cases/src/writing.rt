@@ -44,8 +44,8 @@ fn call_on(machine: Machine, decoded: Decoded) -> Answered
         };
     };
     match call {
-        Call::Access(right, address) => {
-            return machine.access(right, address);
+        Call::Access(width, right, address) => {
+            return machine.access(width, right, address);
         }
         Call::Grant(right, page, domain) => {
             return machine.grant(right, page, domain);

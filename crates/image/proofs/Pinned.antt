@@ -16,6 +16,7 @@ use Rattle.machine.specs.declared.record.Machine.{Machine}
 use Rattle.machine.specs.declared.record.Program.{Program}
 use Rattle.machine.specs.declared.record.Report.the-variants.{Denied}
 use Rattle.machine.specs.declared.record.Answered.{Answered}
+use Rattle.machine.specs.declared.record.Width.the-variants.{One}
 use Rattle.machine.specs.declared.record.Call.{Call}
 use Rattle.machine.specs.declared.record.Call.the-variants.{Access, Grant, Revoke, SetMask, Enter, Return, AskViolation}
 use Rattle.machine.proofs.Written.{stored, live, denied, whole, gives}

@@ -16,6 +16,7 @@ use Rattle.rules.proofs.Laws.{no-domain-bit}
 use Rattle.machine.specs.Machine.{fieldOf, isSound, noProgram}
 use Rattle.machine.specs.Calls.{asPage, asDomain, accessChecks, after, callOf, checksOf, changeChecks, effectOf, entered, returned, switched}
 use Rattle.machine.specs.declared.record.Machine.{Machine}
+use Rattle.machine.specs.declared.record.Width.the-variants.{One}
 use Rattle.machine.specs.declared.record.Call.the-variants.{Access, Enter, Grant, Return, Revoke, SetMask, Switch}
 use Rattle.image.specs.Load.{loadOf}
 use Rattle.image.specs.Sample.{sampleBytes, sampleMachine}

@@ -4,12 +4,14 @@ use mathlib.Core.List.{List, [], _∷_, _++_, map}
 use Rattle.machine.specs.declared.record.Machine.{Machine}
 use Rattle.machine.specs.declared.record.Page.{Page}
 use Rattle.machine.specs.declared.record.Domain.{Domain}
+use Rattle.machine.specs.declared.record.Width.{Width}
 use Rattle.machine.specs.declared.record.Call.{Call}
 use Rattle.machine.specs.declared.record.Call.the-variants.{Access, Grant, Revoke, SetMask, Enter, Return, Switch}
 
--- RULES 4.1: what a turn's list is made of, with any arguments; the kernel's stores and its question for the last violation are in no turn
+-- RULES 4.1: what a turn's list is made of, with any arguments, the accesses of one byte and of two; the kernel's stores and its question for the last
+-- violation are in no turn
 pub data Command : Type 0 where
-  access : (right address : ℕ) → Command
+  access : Width → (right address : ℕ) → Command
   grant : (right : ℕ) (page : Page) (s : Domain) → Command
   revoke : (right : ℕ) (page : Page) (s : Domain) → Command
   setMask : (bits : ℕ) → Command

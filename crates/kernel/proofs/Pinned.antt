@@ -8,6 +8,7 @@ use Rattle.rules.specs.declared.registers.Mode.the-variants.{User}
 use Rattle.machine.specs.Machine.{isSound, withLast}
 use Rattle.machine.specs.Calls.{callOf, checksOf, accessChecks, effectOf, entered, returned, switched, after}
 use Rattle.machine.specs.declared.record.Machine.{Machine}
+use Rattle.machine.specs.declared.record.Width.the-variants.{One, Two}
 use Rattle.machine.specs.declared.record.Call.the-variants.{Access, Grant, Revoke, SetMask, Enter, Return, Switch}
 use Rattle.machine.proofs.Written.{stored, live, denied, whole}
 use Rattle.kernel.specs.Kernel.{callFor, begunOf, servedOf}
@@ -16,13 +17,15 @@ use Rattle.kernel.specs.declared.Request.the-variants.{Read, Write, Gran
 -- the call of each request
 pub calls-for :
     map callFor
-    (Read 7
-    ∷ Write 8
+    (Read One 7
+    ∷ Read Two 7
+    ∷ Write One 8
+    ∷ Write Two 8
     ∷ GrantRight 3 (record { 0 = 2 }) (record { 0 = 3 })
     ∷ RevokeRight 2 (record { 0 = 4 }) (record { 0 = 5 })
     ∷ ReplaceMask 9
     ∷ [])
-    ≡ Access One 0 7 ∷ Access One 1 8 ∷ Grant 3 (record { 0 = 2 }) (record { 0 = 3 }) ∷ Revoke 2 (record { 0 = 4 }) (record { 0 = 5 }) ∷ SetMask 9 ∷ []
+    ≡ Access One 0 7 ∷ Access Two 0 7 ∷ Access One 1 8 ∷ Access Two 1 8 ∷ Grant 3 (record { 0 = 2 }) (record { 0 = 3 }) ∷ Revoke 2 (record { 0 = 4 }) (record { 0 = 5 }) ∷ SetMask 9 ∷ []
 calls-for = refl
 
 -- READ of the page is held by domain 0, WRITE by none; program 0 is current, and what is stored for it is older than what is live
@@ -52,9 +55,9 @@ pub turn-spelled : (m : Machine) (program : ℕ)
 unfolding begunOf
 turn-spelled m program = refl
 
--- an access that is allowed, one that is a violation, and one while it is pending
+-- accesses of two bytes and of one that are allowed, one that is a violation, and one while it is pending
 pub requests-served :
-    (servedOf (node 0 false) (Read 0 ∷ Write 0 ∷ Read 0 ∷ []) ≡ record { refused = 2; machine = withLast (denied 0 1 0) (node 0 true) })
+    (servedOf (node 0 false) (Read Two 30 ∷ Read One 31 ∷ Write One 0 ∷ Read One 0 ∷ []) ≡ record { refused = 2; machine = withLast (denied 0 1 0) (node 0 true) })
     × (servedOf (node 0 false) [] ≡ record { refused = 0; machine = node 0 false })
 unfolding servedOf callOf checksOf accessChecks effectOf after isSound
 requests-served = (refl, refl)

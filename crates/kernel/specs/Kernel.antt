@@ -12,10 +12,10 @@ use Rattle.kernel.specs.declared.Request.the-variants.{Read, Write, Gran
 use Rattle.kernel.specs.declared.Begun.{Begun}
 use Rattle.kernel.specs.declared.Served.{Served}
 
--- the call that belongs to a request; READ is 0, WRITE is 1 (RULES 1.5)
+-- the call that belongs to a request, an access to as many bytes as it asks for; READ is 0, WRITE is 1 (RULES 1.5)
 abbrev pub callFor : Request → Call
-callFor (Read address) = Access One 0 address
-callFor (Write address) = Access One 1 address
+callFor (Read width address) = Access width 0 address
+callFor (Write width address) = Access width 1 address
 callFor (GrantRight right page domain) = Grant right page domain
 callFor (RevokeRight right page domain) = Revoke right page domain
 callFor (ReplaceMask mask) = SetMask mask

@@ -7,6 +7,7 @@ use machine::Domain;
 use machine::Machine;
 use machine::Page;
 use machine::Report;
+use machine::Width;
 ghost use mathlib.Core.Bool.{true, false};
 ghost use mathlib.Core.Path.{_≡_};
 ghost use Prim.Native.Nat.{_<_};
@@ -20,10 +21,10 @@ ghost use Rattle.rules.specs.Registers.{modeWhere};
 ghost use Rattle.image.specs.Load.{loadOf};
 ghost use Rattle.kernel.specs.Kernel.{callFor, begunOf, servedOf};
 
-// What a program asks its kernel for: the accesses of its instructions, and its commands.
+// What a program asks its kernel for: the accesses of its instructions, to one byte or to two, and its commands.
 pub enum Request {
-    Read(u32),
-    Write(u32),
+    Read(Width, u32),
+    Write(Width, u32),
     GrantRight(u8, Page, Domain),
     RevokeRight(u8, Page, Domain),
     ReplaceMask(u16),
@@ -80,11 +81,11 @@ fn serve(machine: Machine, request: Request) -> Answered
     ensures { λ r. ⌜ r ≡ callOf machine (callFor request) ⌝ }
 {
     match request {
-        Request::Read(address) => {
-            return machine.access(0, address);
+        Request::Read(width, address) => {
+            return machine.access(width, 0, address);
         }
-        Request::Write(address) => {
-            return machine.access(1, address);
+        Request::Write(width, address) => {
+            return machine.access(width, 1, address);
         }
         Request::GrantRight(right, page, domain) => {
             return machine.grant(right, page, domain);
@@ -160,7 +161,8 @@ fn print(number: u8) -> u8
 
 // The sample node: a load, three requests of program 0 of which a violation and the one after it are refused, an interrupt in which support is told
 // of it and the program's registers are stored, the turn of program 1, and three of its requests, of which the last two are refused: it does not hold
-// the prevailing domain, and may not write page 0.
+// the prevailing domain, and may not write page 0. Both programs read two bytes from 511 on, the last of page 1 and the first of page 2: program 0 may
+// not read page 2, program 1 may read both.
 fn main() {
     let image = [
         1u8,
@@ -213,8 +215,8 @@ fn main() {
     let first = serve_all(
         loaded.machine,
         [
-            Request::Read(16),
-            Request::Read(512),
+            Request::Read(Width::One, 16),
+            Request::Read(Width::Two, 511),
             Request::ReplaceMask(7),
         ],
     );
@@ -231,9 +233,9 @@ fn main() {
     let second = serve_all(
         begun.machine,
         [
-            Request::Read(512),
+            Request::Read(Width::Two, 511),
             Request::GrantRight(0, Page(2), Domain(4)),
-            Request::Write(0),
+            Request::Write(Width::One, 0),
         ],
     );
     print(second.refused);

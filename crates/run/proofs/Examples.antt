@@ -10,6 +10,7 @@ use Rattle.image.specs.Load.{loadOf, loadChecks, lengthTests, kindTests, shapeE
 use Rattle.image.specs.Sample.{sampleBytes}
 use Rattle.machine.specs.Machine.{isSound}
 use Rattle.machine.specs.Calls.{asPage, asDomain, callOf, checksOf, accessChecks, changeChecks, effectOf, entered, returned, switched, after}
+use Rattle.machine.specs.declared.record.Width.the-variants.{One, Two}
 use Rattle.machine.specs.declared.record.Call.the-variants.{Access, Grant, Revoke, SetMask, Enter, Return, Switch, StoreField, StoreContext, StoreMask, StoreMode, AskViolation}
 use Rattle.run.specs.Records.{callOfKind, callsOf, stepBy}
 use Rattle.run.specs.Run.{answersFrom, answersOf, callAnswers, sent}
@@ -19,11 +20,11 @@ use Rattle.run.specs.declared.records.Decoded.the-variants.{Known, Unkno
 abbrev record-of : ℕ → List ℕ → List ℕ
 record-of kind rest = kind ∷ 1 ∷ 2 ∷ 3 ∷ 4 ∷ 5 ∷ rest
 
--- RULES 6.5, 6.6, 6.9: the twelve kinds, the two next to them, and a remainder that is no record
+-- RULES 6.5, 6.6, 6.9: the thirteen kinds, the two next to them, and a remainder that is no record
 pub kinds-read :
     callsOf
     (record-of 0 (record-of 1 (record-of 2 (record-of 3 (record-of 4 (record-of 5 (record-of 6 (record-of 7 (record-of 8
-    (record-of 9 (record-of 10 (record-of 11 (record-of 12 (record-of 13 (1 ∷ 1 ∷ 2 ∷ 3 ∷ 4 ∷ [])))))))))))))))
+    (record-of 9 (record-of 10 (record-of 11 (record-of 12 (record-of 13 (record-of 14 (1 ∷ 1 ∷ 2 ∷ 3 ∷ 4 ∷ []))))))))))))))))
     ≡ Unknown
     ∷ Known (Access One 1 0x02030405)
     ∷ Known (Grant 1 (asPage 0x0203) (asDomain 0x0405))
@@ -37,6 +38,7 @@ pub kinds-read :
     ∷ Known (StoreMask 0x0405)
     ∷ Known (StoreMode 0x0405)
     ∷ Known AskViolation
+    ∷ Known (Access Two 1 0x02030405)
     ∷ Unknown
     ∷ []
 unfolding callsOf callOfKind

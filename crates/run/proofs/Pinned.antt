@@ -16,17 +16,18 @@ use Rattle.image.proofs.Pinned.{long-bytes}
 use Rattle.machine.specs.Machine.{isSound, withLast}
 use Rattle.machine.specs.Calls.{callOf, uncheckedOf, checksOf, accessChecks, changeChecks, effectOf, entered, returned, switched, after}
 use Rattle.machine.specs.declared.record.Machine.{Machine}
+use Rattle.machine.specs.declared.record.Width.the-variants.{One, Two}
 use Rattle.machine.specs.declared.record.Call.the-variants.{Access, Grant, Revoke, SetMask, Enter, Return, Switch, StoreField, StoreContext, StoreMask, StoreMode, AskViolation}
 use Rattle.machine.proofs.Written.{stored, live, denied, whole, gives}
 use Rattle.run.specs.Records.{callOfKind, callsOf, stepBy, stepOf, uncheckedStepOf}
 use Rattle.run.specs.Run.{answersFrom, answersOf, callAnswers, callBytes, imageOf, isLong, sent}
 use Rattle.run.specs.declared.records.Decoded.the-variants.{Known, Unknown}
 
--- a right above 1 is read as it stands, every part that a call does not use is passed over, and no kind past 12 is known
+-- a right above 1 is read as it stands, every part that a call does not use is passed over, and no kind past 13 is known
 pub parts-read :
     (map (λ (right : ℕ). callOfKind 1 right 0xFFFF 0xFFFE) (0 ∷ 1 ∷ 2 ∷ 255 ∷ [])
     ≡ Known (Access One 0 0xFFFFFFFE) ∷ Known (Access One 1 0xFFFFFFFE) ∷ Known (Access One 2 0xFFFFFFFE) ∷ Known (Access One 255 0xFFFFFFFE) ∷ [])
-    × (map (λ (kind : ℕ). callOfKind kind 254 0xFFFF 0xFFFE) (2 ∷ 3 ∷ 4 ∷ 5 ∷ 6 ∷ 7 ∷ 8 ∷ 9 ∷ 10 ∷ 11 ∷ 12 ∷ [])
+    × (map (λ (kind : ℕ). callOfKind kind 254 0xFFFF 0xFFFE) (2 ∷ 3 ∷ 4 ∷ 5 ∷ 6 ∷ 7 ∷ 8 ∷ 9 ∷ 10 ∷ 11 ∷ 12 ∷ 13 ∷ [])
     ≡ Known (Grant 254 (record { 0 = 0xFFFF }) (record { 0 = 0xFFFE }))
     ∷ Known (Revoke 254 (record { 0 = 0xFFFF }) (record { 0 = 0xFFFE }))
     ∷ Known (SetMask 0xFFFE)
@@ -38,8 +39,9 @@ pub parts-read :
     ∷ Known (StoreMask 0xFFFE)
     ∷ Known (StoreMode 0xFFFE)
     ∷ Known AskViolation
+    ∷ Known (Access Two 254 0xFFFFFFFE)
     ∷ [])
-    × (map (λ (kind : ℕ). callOfKind kind 1 2 3) (0 ∷ 13 ∷ 14 ∷ 16 ∷ 17 ∷ 32 ∷ 65 ∷ 127 ∷ 128 ∷ 129 ∷ 133 ∷ 255 ∷ []) ≡ replicate 12 Unknown)
+    × (map (λ (kind : ℕ). callOfKind kind 1 2 3) (0 ∷ 14 ∷ 15 ∷ 16 ∷ 17 ∷ 32 ∷ 65 ∷ 127 ∷ 128 ∷ 129 ∷ 133 ∷ 255 ∷ []) ≡ replicate 12 Unknown)
 unfolding callOfKind
 parts-read = (refl, refl, refl)
 
@@ -95,7 +97,7 @@ pub sample-run :
     ∷ 0x02 ∷ 0x00 ∷ 0x00 ∷ 0x01 ∷ 0x00 ∷ 0x0F
     ∷ 0x03 ∷ 0x02 ∷ 0x00 ∷ 0x01 ∷ 0x00 ∷ 0x0F
     ∷ 0x01 ∷ 0x01 ∷ 0x00 ∷ 0x00 ∷ 0x00 ∷ 0x00
-    ∷ 0x0D ∷ 0x00 ∷ 0x00 ∷ 0x00 ∷ 0x00 ∷ 0x00
+    ∷ 0x0E ∷ 0x00 ∷ 0x00 ∷ 0x00 ∷ 0x00 ∷ 0x00
     ∷ 0x04 ∷ 0x00 ∷ 0x00 ∷ 0x00 ∷ 0x00 ∷ 0x07
     ∷ 0x05 ∷ 0x00 ∷ 0x00 ∷ 0x00 ∷ 0x00 ∷ 0x00
     ∷ 0x0B ∷ 0x00 ∷ 0x00 ∷ 0x00 ∷ 0x00 ∷ 0x00
@@ -104,6 +106,27 @@ pub sample-run :
     ≡ 0 ∷ 18 ∷ 0 ∷ 0 ∷ 2 ∷ 9 ∷ 18 ∷ 8 ∷ 0 ∷ 0 ∷ 7 ∷ []
 unfolding sampleBytes callAnswers answersFrom callsOf callOfKind stepBy loadOf loadChecks lengthTests kindTests shapeEntryTests shapeTests bodyTests describe machineOf callOf checksOf accessChecks changeChecks effectOf entered returned switched after isSound prevailing domainBit trailingZeros
 sample-run = refl
+
+-- accesses of two bytes on the sample: within page 0, from page 0 to page 1, of which each gives READ through a domain of its own, and from page 1 to
+-- page 2, which does not give it; then the flag is set. In privileged mode memory ends all the same, and past the greatest address nothing wraps.
+pub words-run :
+    answersOf
+    (0x00 ∷ 0x2C ∷ (sampleBytes
+    ++ (0x0D ∷ 0x00 ∷ 0x00 ∷ 0x00 ∷ 0x00 ∷ 0xFE
+    ∷ 0x0D ∷ 0x00 ∷ 0x00 ∷ 0x00 ∷ 0x00 ∷ 0xFF
+    ∷ 0x0D ∷ 0x00 ∷ 0x00 ∷ 0x00 ∷ 0x01 ∷ 0xFE
+    ∷ 0x0D ∷ 0x02 ∷ 0x00 ∷ 0x00 ∷ 0x02 ∷ 0xFF
+    ∷ 0x0D ∷ 0x00 ∷ 0x00 ∷ 0x00 ∷ 0x02 ∷ 0xFF
+    ∷ 0x0D ∷ 0x00 ∷ 0x00 ∷ 0x00 ∷ 0x01 ∷ 0xFF
+    ∷ 0x0D ∷ 0x00 ∷ 0x00 ∷ 0x00 ∷ 0x00 ∷ 0xFE
+    ∷ 0x05 ∷ 0x00 ∷ 0x00 ∷ 0x00 ∷ 0x00 ∷ 0x00
+    ∷ 0x0D ∷ 0x01 ∷ 0x00 ∷ 0x00 ∷ 0x02 ∷ 0xFE
+    ∷ 0x0D ∷ 0x01 ∷ 0x00 ∷ 0x00 ∷ 0x02 ∷ 0xFF
+    ∷ 0x0D ∷ 0x01 ∷ 0xFF ∷ 0xFF ∷ 0xFF ∷ 0xFF
+    ∷ [])))
+    ≡ 0 ∷ 0 ∷ 0 ∷ 0 ∷ 2 ∷ 3 ∷ 9 ∷ 8 ∷ 0 ∷ 0 ∷ 3 ∷ 3 ∷ []
+unfolding sampleBytes callAnswers answersFrom callsOf callOfKind stepBy loadOf loadChecks lengthTests kindTests shapeEntryTests shapeTests bodyTests describe machineOf callOf checksOf accessChecks effectOf entered after isSound
+words-run = refl
 
 -- an image of 318 bytes, whose length stands in both bytes: program 0 is privileged
 pub long-run :

@@ -11,6 +11,7 @@ use Rattle.image.specs.Load.{loadOf}
 use Rattle.machine.specs.Calls.{callOf, uncheckedOf}
 use Rattle.machine.specs.declared.record.Machine.{Machine}
 use Rattle.machine.specs.declared.record.Report.the-variants.{Nothing}
+use Rattle.machine.specs.declared.record.Width.the-variants.{One, Two}
 use Rattle.machine.specs.declared.record.Call.{Call}
 use Rattle.machine.specs.declared.record.Call.the-variants.{Access, Grant, Revoke, SetMask, Enter, Return, Switch, StoreField, StoreContext, StoreMask, StoreMode, AskViolation}
 use Rattle.run.specs.Records.{callOfKind, callsOf, stepBy, uncheckedStepOf}
@@ -20,7 +21,7 @@ use Rattle.run.specs.declared.records.Decoded.the-variants.{Known, Unkno
 
 -- the kinds for any parts, and a kind past the last
 pub kinds-spelled : (right a b more : ℕ)
-    → (map (λ kind. callOfKind kind right a b) (0 ∷ 1 ∷ 2 ∷ 3 ∷ 4 ∷ 5 ∷ 6 ∷ 7 ∷ 8 ∷ 9 ∷ 10 ∷ 11 ∷ 12 ∷ [])
+    → (map (λ kind. callOfKind kind right a b) (0 ∷ 1 ∷ 2 ∷ 3 ∷ 4 ∷ 5 ∷ 6 ∷ 7 ∷ 8 ∷ 9 ∷ 10 ∷ 11 ∷ 12 ∷ 13 ∷ [])
     ≡ Unknown
     ∷ Known (Access One right (65536 * a + b))
     ∷ Known (Grant right (record { 0 = a }) (record { 0 = b }))
@@ -34,8 +35,9 @@ pub kinds-spelled : (right a b more : ℕ)
     ∷ Known (StoreMask b)
     ∷ Known (StoreMode b)
     ∷ Known AskViolation
+    ∷ Known (Access Two right (65536 * a + b))
     ∷ [])
-    × (callOfKind (suc (suc (suc (suc (suc (suc (suc (suc (suc (suc (suc (suc (suc more))))))))))))) right a b ≡ Unknown)
+    × (callOfKind (suc (suc (suc (suc (suc (suc (suc (suc (suc (suc (suc (suc (suc (suc more)))))))))))))) right a b ≡ Unknown)
 unfolding callOfKind
 kinds-spelled right a b more = (refl, refl)
 

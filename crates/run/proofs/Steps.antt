@@ -36,8 +36,8 @@ made fields saved m call answer decodes names = rw (decodes, names) answer
 pub above : {n k : ℕ} → n ≤ k → (k ≡ n → ⊥) → n + 1 ≤ k
 above least other = omega arith
 
--- a kind past the table's last is none of the twelve
-pub unknown-kind : (kind right a b : ℕ) → ((kind ≡ 0 → ⊥) → 13 ≤ kind) → Unknown ≡ callOfKind kind right a b
+-- a kind past the table's last is none of the thirteen
+pub unknown-kind : (kind right a b : ℕ) → ((kind ≡ 0 → ⊥) → 14 ≤ kind) → Unknown ≡ callOfKind kind right a b
 unfolding callOfKind
 unknown-kind kind right a b past = split (eqb kind 0) refl
   where

@@ -6,6 +6,7 @@ use Rattle.image.specs.Bytes.{wordOf}
 use Rattle.machine.specs.Calls.{asPage, asDomain, callOf, uncheckedOf, silent}
 use Rattle.machine.specs.declared.record.Machine.{Machine}
 use Rattle.machine.specs.declared.record.Answered.{Answered}
+use Rattle.machine.specs.declared.record.Width.the-variants.{One, Two}
 use Rattle.machine.specs.declared.record.Call.{Call}
 use Rattle.machine.specs.declared.record.Call.the-variants.{Access, Grant, Revoke, SetMask, Enter, Return, Switch, StoreField, StoreContext, StoreMask, StoreMode, AskViolation}
 use Rattle.run.specs.declared.records.Decoded.{Decoded}
@@ -27,6 +28,7 @@ kinds right a b =
     ∷ Known (StoreMask b)
     ∷ Known (StoreMode b)
     ∷ Known AskViolation
+    ∷ Known (Access Two right (65536 * a + b))
     ∷ []
 
 -- RULES 6.6: a kind past the last is no call either

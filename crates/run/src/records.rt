@@ -15,7 +15,7 @@ ghost use Rattle.machine.specs.Machine.{withLent};
 ghost use Rattle.machine.specs.Calls.{keeping};
 ghost use Rattle.run.specs.Records.{callOfKind, uncheckedStepOf};
 
-// A record read: one of the twelve calls, or none of them.
+// A record read: one of the calls, or none of them.
 pub enum Decoded {
     Known(Call),
     Unknown,

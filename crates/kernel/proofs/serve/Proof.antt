@@ -8,12 +8,12 @@ use Rattle.kernel.proofs.serve.Tie as tie
 returns : tie.Need-returns
 returns c =
     let naming : tie.After-request = (search) in
-    asked _ _ (Read _) (c .access .ensures) (naming .request .given .1)
+    asked _ _ (Read _ _) (c .access .ensures) (naming .request .given .1)
 
 returns-2 : tie.Need-returns-2
 returns-2 c =
     let naming : tie.After-request2 = (search) in
-    asked _ _ (Write _) (c .access2 .ensures) (naming .request2 .given .1)
+    asked _ _ (Write _ _) (c .access2 .ensures) (naming .request2 .given .1)
 
 returns-3 : tie.Need-returns-3
 returns-3 c =

@@ -102,7 +102,7 @@ fn right_alone(letter: char, neighbour: char) -> u8 {
 fn right_across(count: u32, page: u32, front: char, behind: char) -> u8 {
     let turn = (page % 2) as u8;
     let both = |right: &u8| gives(front, *right) && gives(behind, *right);
-    if count < 64 || page % 7 == 0 {
+    if count < 64 || page.is_multiple_of(7) {
         turn
     } else {
         [turn, 1 - turn].into_iter().find(both).unwrap_or(turn)

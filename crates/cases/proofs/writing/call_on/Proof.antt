@@ -16,7 +16,7 @@ call-on-spec =
     (tie.spec
     (λ c. search needs) (λ c. search needs) returns
     (λ c. search needs) (λ c κs. search needs)
-    (λ c. let decoding : tie.After-decoded = (search) in asked _ (Access _ _) (c .access .ensures) (decoding .decoded .given .1) (c .before .before .call .given .1))
+    (λ c. let decoding : tie.After-decoded = (search) in asked _ (Access _ _ _) (c .access .ensures) (decoding .decoded .given .1) (c .before .before .call .given .1))
     (λ c. search needs) (λ c κs. search needs)
     (λ c. let decoding : tie.After-decoded = (search) in asked _ (Grant _ _ _) (c .grant .ensures) (decoding .decoded .given .1) (c .before .before .call2 .given .1))
     (λ c. search needs) (λ c κs. search needs)

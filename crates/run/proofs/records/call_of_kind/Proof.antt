@@ -6,15 +6,15 @@ use borrow.Author.Needs.{needs}
 use Rattle.run.proofs.records.call_of_kind.Statement.{statement}
 use Rattle.run.proofs.records.call_of_kind.Tie as tie
 
-returns-13 : tie.Need-returns-13
+returns-14 : tie.Need-returns-14
 unfolding callOfKind
-returns-13 c =
+returns-14 c =
     let a = c .before .args in
     let r = c .match .rest in
     unknown-kind (a .kind) (a .right) (a .a) (a .b)
     (λ none.
-    above (above (above (above (above (above (above (above (above (above (above (above (above {n = 0} zero-le none)
-    (r .0 .0 .0 .0 .0 .0 .0 .0 .0 .0 .0 .1)) (r .0 .0 .0 .0 .0 .0 .0 .0 .0 .0 .1)) (r .0 .0 .0 .0 .0 .0 .0 .0 .0 .1)) (r .0 .0 .0 .0 .0 .0 .0 .0 .1))
+    above (above (above (above (above (above (above (above (above (above (above (above (above (above {n = 0} zero-le none)
+    (r .0 .0 .0 .0 .0 .0 .0 .0 .0 .0 .0 .0 .1)) (r .0 .0 .0 .0 .0 .0 .0 .0 .0 .0 .0 .1)) (r .0 .0 .0 .0 .0 .0 .0 .0 .0 .0 .1)) (r .0 .0 .0 .0 .0 .0 .0 .0 .0 .1)) (r .0 .0 .0 .0 .0 .0 .0 .0 .1))
     (r .0 .0 .0 .0 .0 .0 .0 .1)) (r .0 .0 .0 .0 .0 .0 .1)) (r .0 .0 .0 .0 .0 .1)) (r .0 .0 .0 .0 .1))
     (r .0 .0 .0 .1)) (r .0 .0 .1)) (r .0 .1)) (r .1))
 
@@ -22,7 +22,8 @@ pub call-of-kind-spec : {M : Type 1} → statement M
 unfolding callOfKind
 call-of-kind-spec =
     tie.close
-    (tie.spec (λ c κs. search needs) (λ c. rw (c .before .match .keys1, c .address-of .ensures))
+    (tie.spec (λ c κs. search needs) (λ c κs. search needs) (λ c. rw (c .before .match .keys1, c .address-of .ensures))
     (λ c. rw (c .match .keys2)) (λ c. rw (c .match .keys3)) (λ c. rw (c .match .keys4)) (λ c. rw (c .match .keys5))
     (λ c. rw (c .match .keys6)) (λ c. rw (c .match .keys7)) (λ c. rw (c .match .keys8)) (λ c. rw (c .match .keys9))
-    (λ c. rw (c .match .keys10)) (λ c. rw (c .match .keys11)) (λ c. rw (c .match .keys12)) returns-13)
+    (λ c. rw (c .match .keys10)) (λ c. rw (c .match .keys11)) (λ c. rw (c .match .keys12))
+    (λ c. rw (c .before .match .keys13, c .address-of2 .ensures)) returns-14)

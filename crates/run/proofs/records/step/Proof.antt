@@ -19,7 +19,7 @@ unfolding checksOf accessChecks effectOf
 returns-2 c =
     let decoding : tie.After-decoded = (search) in
     let naming : tie.After-call = (search) in
-    made _ _ _ (Access _ _) (on-fields _ _ _ (Access _ _) (refl, refl) (c .access-lent .ensures) (sym (access-keeps _ _ _))) (decoding .decoded .given .1) (naming .call .given .1)
+    made _ _ _ (Access _ _ _) (on-fields _ _ _ (Access _ _ _) (refl, refl) (c .access-lent .ensures) (sym (access-keeps _ _ _ _))) (decoding .decoded .given .1) (naming .call .given .1)
 
 returns-3 : tie.Need-returns-3
 unfolding checksOf changeChecks effectOf
