@@ -14,7 +14,7 @@ use Rattle.machine.specs.Machine.{isSound}
 use Rattle.machine.specs.Calls.{accessChecks, after, callOf, checksOf, changeChecks, effectOf, entered, returned, switched}
 use Rattle.machine.specs.declared.record.Machine.{Machine}
 use Rattle.machine.specs.declared.record.Program.{Program}
-use Rattle.machine.specs.declared.record.Width.the-variants.{One}
+use Rattle.machine.specs.declared.record.Width.the-variants.{One, Two}
 use Rattle.machine.specs.declared.record.Call.{Call}
 use Rattle.machine.specs.declared.record.Call.the-variants.{Access, Enter, Grant, Return, Revoke, SetMask, Switch}
 use Rattle.machine.proofs.Written.{stored, live, whole}
@@ -63,7 +63,7 @@ by program commands = record { program = program; commands = commands }
 abbrev history : History
 history =
     record {
-      opening = grant 0 (record { 0 = 0 }) (record { 0 = 10 }) ∷ access One 0 255 ∷ [];
+      opening = grant 0 (record { 0 = 0 }) (record { 0 = 10 }) ∷ access Two 0 255 ∷ [];
       turns =
           by 1 (grant 1 (record { 0 = 1 }) (record { 0 = 15 }) ∷ setMask 0x0200 ∷ [])
           ∷ by 2 (access One 1 256 ∷ [])
@@ -77,7 +77,7 @@ pub table-asked :
 table-asked = refl
 
 abbrev opens : List Call
-opens = Grant 0 (record { 0 = 0 }) (record { 0 = 10 }) ∷ Access One 0 255 ∷ []
+opens = Grant 0 (record { 0 = 0 }) (record { 0 = 10 }) ∷ Access Two 0 255 ∷ []
 
 abbrev begins : ℕ → List Call → List Call
 begins program commands = Enter ∷ Switch program ∷ Return ∷ commands
@@ -106,7 +106,7 @@ made program call = record { program = program; call = call }
 -- the calls of turns, in order, each with the program in whose turn it stands
 pub calls-made :
     callsOf (turn 0 opens ∷ turn 2 (begins 2 (Access One 1 256 ∷ [])) ∷ turn 1 [] ∷ turn 1 (SetMask 0 ∷ []) ∷ [])
-    ≡ made 0 (Grant 0 (record { 0 = 0 }) (record { 0 = 10 })) ∷ made 0 (Access One 0 255) ∷ made 2 Enter ∷ made 2 (Switch 2) ∷ made 2 Return
+    ≡ made 0 (Grant 0 (record { 0 = 0 }) (record { 0 = 10 })) ∷ made 0 (Access Two 0 255) ∷ made 2 Enter ∷ made 2 (Switch 2) ∷ made 2 Return
     ∷ made 2 (Access One 1 256) ∷ made 1 (SetMask 0) ∷ []
 calls-made = refl
 
@@ -122,9 +122,9 @@ rights-seen = (refl, refl, refl, refl)
 abbrev shown : ℕ → List ℕ → List ℕ → Observation
 shown number before after = record { number = number; before = before; after = after }
 
--- what each program observes: program 0 its two calls, program 2 what program 1 may do to domain 10, in between
+-- what each program observes: program 0 its two calls, of which the second reads across the edge to a page that it may not read, program 2 what program 1 may do to domain 10, in between
 pub history-observed :
-    (observed small 0 history ≡ shown 0 (1 ∷ 0 ∷ 0 ∷ 0 ∷ []) (1 ∷ 0 ∷ 0 ∷ 0 ∷ []) ∷ shown 0 (1 ∷ 0 ∷ 0 ∷ 0 ∷ []) (1 ∷ 0 ∷ 0 ∷ 0 ∷ []) ∷ [])
+    (observed small 0 history ≡ shown 0 (1 ∷ 0 ∷ 0 ∷ 0 ∷ []) (1 ∷ 0 ∷ 0 ∷ 0 ∷ []) ∷ shown 9 (1 ∷ 0 ∷ 0 ∷ 0 ∷ []) (1 ∷ 0 ∷ 0 ∷ 0 ∷ []) ∷ [])
     × (observed small 1 history
     ≡ replicate 5 (shown 0 (0x0200 ∷ 0 ∷ 0 ∷ 0x0200 ∷ []) (0x0200 ∷ 0 ∷ 0 ∷ 0x0200 ∷ []))
     ++ (replicate 5 (shown 0 (0x0200 ∷ 0 ∷ 0 ∷ 0x0200 ∷ []) (0x0200 ∷ 0 ∷ 0 ∷ 0x0200 ∷ []))

@@ -1,10 +1,10 @@
 -- When an access of either width is allowed: exactly where none of its conditions is met. The page of each byte that it touches is said by its bounds,
 -- not by a division.
-use Prim.Native.Nat.{ℕ, suc, _+_, _*_, _/_, _^_, _≤_, _<_}
+use Prim.Native.Nat.{ℕ, suc, _+_, _-_, _*_, _/_, _^_, _≤_, _<_}
 use mathlib.Core.Path.{_≡_, refl}
 use mathlib.Core.Bool.{Bool, true, false, not}
 use mathlib.Core.List.{List, [], _∷_}
-use mathlib.Core.Logic.{_⊎_, inl, inr, ⊎-elim}
+use mathlib.Core.Logic.{_⊎_, _↔_, inl, inr, ⊎-elim}
 use borrow.Author.Tests.{leb-true, leb-false, le-leb, lt-leb, not-false}
 use lib.Bits.{bitAnd}
 use lib.Dec.{leb, eqb}
@@ -19,7 +19,7 @@ use Rattle.machine.specs.declared.record.Machine.{Machine}
 use Rattle.machine.specs.declared.record.Width.{Width}
 use Rattle.machine.specs.declared.record.Call.the-variants.{Access}
 use Rattle.machine.proofs.Answers.{accepted, metAt, unmet}
-use Rattle.machine.proofs.Touched.{Touches, none-meets, none-met}
+use Rattle.machine.proofs.Touched.{Touches, bytes, last-touched, met, none-meets, none-met, some-meets}
 
 -- a byte on a page that is there
 pub record Paged (m : Machine) (byte : ℕ) : Type 0 where
@@ -99,3 +99,51 @@ module _ (m : Machine) (width : Width) (right address : ℕ) where
       within {byte} on =
           let counted : byte / size < m .pages = rw (place on) (on .page-counted) in
           lt-leb (memorySize m) byte (div-lt-iff-lt-mul (pow-pos (m .exponent)) .0 counted)
+
+  -- 3 comes exactly where memory ends before the access does
+  pub outside-exactly : isSound m ≡ true → right ≤ 1 → (numberOf m (Access width right address) ≡ 3) ↔ (m .pages * 2 ^ m .exponent < address + bytes width)
+  unfolding checksOf accessChecks
+  outside-exactly sound known = (forth, back)
+    where
+      inner : Bool → Bool → Bool → ℕ
+      inner privileged pending denied = first (pick privileged [] ((pending ⇒ 8) ∷ (denied ⇒ 9) ∷ []))
+
+      not-three : (privileged pending denied : Bool) → inner privileged pending denied ≡ 3 → ⊥
+      not-three true pending denied three = absurd (omega arith)
+      not-three false true denied three = absurd (omega arith)
+      not-three false false true three = absurd (omega arith)
+      not-three false false false three = absurd (omega arith)
+
+      forth : numberOf m (Access width right address) ≡ 3 → memorySize m < address + bytes width
+      forth three = split (any (isOutsideMemory m) (touched width address)) refl
+        where
+          split : (b : Bool) → any (isOutsideMemory m) (touched width address) ≡ b → memorySize m < address + bytes width
+          split true e =
+              let past = met (isOutsideMemory m) width address e in
+              let out = leb-true (memorySize m) (past .byte) (past .meets) in
+              let ends = past .touches .1 in
+              omega (arith, out, ends)
+          split false e =
+              absurd
+              (not-three (inPrivilegedMode m) (m .registers .pending) (any (isDenied m right) (touched width address))
+              (rw (sound, le-leb right 1 known, e) at three))
+
+      back : memorySize m < address + bytes width → numberOf m (Access width right address) ≡ 3
+      back past = rw (sound, le-leb right 1 known, last-outside)
+        where
+          last-outside : any (isOutsideMemory m) (touched width address) ≡ true
+          last-outside =
+              let last = address + bytes width - 1 in
+              let touches = last-touched width address in
+              some-meets (isOutsideMemory m) width address last touches (le-leb (memorySize m) last (omega (arith, past, touches .1)))
+
+  -- 9 comes where memory goes on to the last byte and, in user mode with the flag clear, the page of one of the bytes does not give the right; that it comes
+  -- nowhere else is `violation-denies` (Laws)
+  pub denial-answered : isSound m ≡ true → right ≤ 1 → address + bytes width ≤ m .pages * 2 ^ m .exponent → inPrivilegedMode m ≡ false
+      → m .registers .pending ≡ false → (byte : ℕ) → Touches width address byte
+      → eqb (bitAnd (fieldOf m right (byte / 2 ^ m .exponent)) (localContext (m .registers))) 0 ≡ true → numberOf m (Access width right address) ≡ 9
+  unfolding checksOf accessChecks
+  denial-answered sound known within user clear byte touches apart =
+      let inside = none-met (isOutsideMemory m) width address (λ other t. let ends = t .1 in lt-leb (memorySize m) other (omega (arith, within, ends))) in
+      let denied = some-meets (isDenied m right) width address byte touches apart in
+      rw (sound, le-leb right 1 known, inside, user, clear, denied)

@@ -16,7 +16,7 @@ use Rattle.machine.specs.Machine.{isSound, noProgram, withRegisters, wit
 use Rattle.machine.specs.Calls.{asPage, asDomain, callOf, checksOf, accessChecks, changeChecks, effectOf, entered, returned, switched, after}
 use Rattle.machine.specs.declared.record.Machine.{Machine}
 use Rattle.machine.specs.declared.record.Program.{Program}
-use Rattle.machine.specs.declared.record.Width.the-variants.{One}
+use Rattle.machine.specs.declared.record.Width.the-variants.{One, Two}
 use Rattle.machine.specs.declared.record.Call.{Call}
 use Rattle.machine.specs.declared.record.Call.the-variants.{Access, Grant, Revoke, SetMask, Enter, Return, Switch, StoreField, StoreContext, StoreMask, StoreMode, AskViolation}
 use Rattle.machine.proofs.Written.{stored, live, denied, whole, Answers, both}
@@ -165,6 +165,36 @@ pub small-pages :
 unfolding callOf checksOf accessChecks isSound
 small-pages = refl
 
+-- accesses of two bytes, from the last byte of each page on and within pages: the page of each byte is asked by itself, so that READ of pages 0 and 1 is
+-- given through two domains, and of two pages that differ neither is enough. Memory ends behind either byte, in privileged mode too, and the order is
+-- that of one byte.
+pub words-order :
+    (Answers callOf (node 0 User false)
+    ((Access Two 2 767, 2)
+    ∷ (Access Two 1 767, 3)
+    ∷ (Access Two 0 767, 3)
+    ∷ (Access Two 0 768, 3)
+    ∷ (Access Two 0 4294967294, 3)
+    ∷ (Access Two 0 4294967295, 3)
+    ∷ (Access Two 0 254, 0)
+    ∷ (Access Two 0 255, 0)
+    ∷ (Access Two 0 256, 0)
+    ∷ (Access Two 0 510, 0)
+    ∷ (Access Two 0 511, 9)
+    ∷ (Access Two 0 512, 9)
+    ∷ (Access Two 0 766, 9)
+    ∷ (Access Two 1 254, 9)
+    ∷ (Access Two 1 255, 9)
+    ∷ (Access Two 1 256, 0)
+    ∷ (Access Two 1 511, 9)
+    ∷ []))
+    × (Answers callOf (node 0 User true) ((Access Two 255 767, 2) ∷ (Access Two 1 767, 3) ∷ (Access Two 1 255, 8) ∷ (Access Two 0 0, 8) ∷ []))
+    × (Answers callOf (node 0 Privileged false)
+    ((Access Two 2 767, 2) ∷ (Access Two 1 767, 3) ∷ (Access Two 1 4294967295, 3) ∷ (Access Two 1 766, 0) ∷ (Access Two 0 511, 0) ∷ (Access Two 1 255, 0) ∷ []))
+    × (Answers callOf (node 9 User false) ((Access Two 2 767, 1) ∷ []))
+unfolding callOf checksOf accessChecks isSound
+words-order = (refl, refl, refl, refl)
+
 -- a machine, a call that is made on it, and the machine after it
 abbrev Effects : List (Machine × Call × Machine) → Type 0
 Effects rows = map (λ row. callOf (row .0) (row .1) .machine) rows ≡ map (λ row. row .2) rows
@@ -188,6 +218,20 @@ pub user-effects :
     ∷ [])
 unfolding callOf checksOf accessChecks changeChecks effectOf after isSound prevailing domainBit trailingZeros
 user-effects = refl
+
+-- an access of two bytes: where it is denied, by whichever page, the first byte's address is kept
+pub words-effects :
+    let before = user figure (live 7 3 User false) in
+    let after = user figure (live 7 3 User true) in
+    Effects
+    ((before, Access Two 0 255, before)
+    ∷ (before, Access Two 0 767, before)
+    ∷ (before, Access Two 0 511, withLast (denied 0 0 511) after)
+    ∷ (before, Access Two 1 255, withLast (denied 0 1 255) after)
+    ∷ (before, Access Two 0 600, withLast (denied 0 0 600) after)
+    ∷ [])
+unfolding callOf checksOf accessChecks effectOf after isSound
+words-effects = refl
 
 -- entry saves the mode and return restores it, at any depth
 pub stack-effects :

@@ -1,16 +1,17 @@
 -- The laws of all calls, each stated once over `Call`: listed numbers, refusals, violations, soundness, what a call leaves alone and what is
 -- reported; and what a violation leaves and the question for it answers. They rest on what is told of each call (Told.antt).
-use Prim.Native.Nat.{ℕ, _*_, _^_, _≤_, _<_}
+use Prim.Native.Nat.{ℕ, _*_, _^_, _/_, _≤_, _<_}
 use mathlib.Core.Path.{_≡_, refl, sym, _∙_}
 use mathlib.Core.Bool.{Bool, true, false, not, _||_, true≢false}
 use mathlib.Core.List.{List, [], _∷_}
 use native.Mathlib.Omega.{arith}
 use borrow.Author.Tests.{eqb-false, ne-eqb, leb-true, leb-false, not-false, le-leb, lt-ltb}
+use lib.Bits.{bitAnd}
 use lib.Dec.{eqb}
 use lib.ListN.{getD}
-use Rattle.rules.specs.Registers.{withPending}
+use Rattle.rules.specs.Registers.{localContext, withPending}
 use Rattle.rules.specs.Refusals.{Check, _⇒_, first, pick}
-use Rattle.machine.specs.Machine.{isRight, isSound, memorySize, violationFits, noProgram, withRegisters, withLast}
+use Rattle.machine.specs.Machine.{isRight, isSound, memorySize, fieldOf, violationFits, noProgram, withRegisters, withLast}
 use Rattle.machine.specs.Calls.{callOf, answerBy, silent, checksOf, accessChecks, changeChecks, effectOf, entered, returned, switched, deniedBy, handedOut, inPrivilegedMode, inUserMode, isDenied, isOutsideMemory, numberOf, touched, any, after, violated}
 use Rattle.machine.specs.Listed.{isIn, listed, ownNumbers, soundNumbers}
 use Rattle.machine.specs.declared.record.Machine.{Machine}
@@ -23,7 +24,7 @@ use Rattle.machine.specs.declared.record.Call.the-variants.{Access, Gran
 use Rattle.machine.proofs.Sound.{Sound, sound-facts, moved-sound}
 use Rattle.machine.proofs.Answers.{first-avoids, not-nine, after-cases, after-both}
 use Rattle.machine.proofs.Told.{told, shape, first-within}
-use Rattle.machine.proofs.Touched.{Touches, first-touched, none-meets}
+use Rattle.machine.proofs.Touched.{Touches, first-touched, met, none-meets}
 
 own-number : (m : Machine) (call : Call) → isIn (first (checksOf m call)) (0 ∷ ownNumbers call) ≡ true
 own-number m call = first-within (0 ∷ ownNumbers call) (checksOf m call) (told m call .numbers .own)
@@ -82,7 +83,8 @@ violation-in-user-mode m call nine = split (inPrivilegedMode m) refl
         (first-avoids 9 ((not (isSound m) ⇒ 1) ∷ checksOf m call) (told m call .numbers .no-nine e)) nine)
     split false e = refl
 
--- RULES 3.2, 9.1: a violation is answered to an access alone, of a right that is one, to bytes in memory
+-- RULES 3.2, 9.1: a violation is answered to an access alone, of a right that is one, to bytes in memory, with the flag clear, where the page of one of
+-- these bytes does not give the right
 pub record DeniedAccess (m : Machine) (call : Call) : Type 0 where
   pub width : Width
   pub right : ℕ
@@ -90,19 +92,29 @@ pub record DeniedAccess (m : Machine) (call : Call) : Type 0 where
   pub accessed : call ≡ Access width right address
   pub right-known : right ≤ 1
   pub inside : (byte : ℕ) → Touches width address byte → byte < m .pages * 2 ^ m .exponent
+  pub not-pending : m .registers .pending ≡ false
+  pub denied : ℕ
+  pub denied-touched : Touches width address denied
+  pub apart : eqb (bitAnd (fieldOf m right (denied / 2 ^ m .exponent)) (localContext (m .registers))) 0 ≡ true
 
-reaches-nine : (b₁ b₂ b₃ : Bool) (rest : List Check) → first ((b₁ ⇒ 1) ∷ (b₂ ⇒ 2) ∷ (b₃ ⇒ 3) ∷ rest) ≡ 9 → (b₂ ≡ false) × (b₃ ≡ false)
-reaches-nine true b₂ b₃ rest nine = absurd (omega arith)
-reaches-nine false true b₃ rest nine = absurd (omega arith)
-reaches-nine false false true rest nine = absurd (omega arith)
-reaches-nine false false false rest nine = (refl, refl)
+reaches-nine : (b₁ b₂ b₃ privileged b₈ b₉ : Bool)
+    → first ((b₁ ⇒ 1) ∷ (b₂ ⇒ 2) ∷ (b₃ ⇒ 3) ∷ pick privileged [] ((b₈ ⇒ 8) ∷ (b₉ ⇒ 9) ∷ [])) ≡ 9
+    → (b₂ ≡ false) × (b₃ ≡ false) × (b₈ ≡ false) × (b₉ ≡ true)
+reaches-nine true b₂ b₃ privileged b₈ b₉ nine = absurd (omega arith)
+reaches-nine false true b₃ privileged b₈ b₉ nine = absurd (omega arith)
+reaches-nine false false true privileged b₈ b₉ nine = absurd (omega arith)
+reaches-nine false false false true b₈ b₉ nine = absurd (omega arith)
+reaches-nine false false false false true b₉ nine = absurd (omega arith)
+reaches-nine false false false false false true nine = (refl, refl, refl, refl)
+reaches-nine false false false false false false nine = absurd (omega arith)
 
 pub violation-denies : (m : Machine) (call : Call) → callOf m call .number ≡ 9 → DeniedAccess m call
 unfolding callOf checksOf accessChecks changeChecks
 violation-denies m (Access width right address) nine =
     let bytes = touched width address in
-    let user = pick (inPrivilegedMode m) [] ((m .registers .pending ⇒ 8) ∷ (any (isDenied m right) bytes ⇒ 9) ∷ []) in
-    let passed = reaches-nine (not (isSound m)) (not (isRight right)) (any (isOutsideMemory m) bytes) user nine in
+    let passed =
+    reaches-nine (not (isSound m)) (not (isRight right)) (any (isOutsideMemory m) bytes) (inPrivilegedMode m) (m .registers .pending) (any (isDenied m right) bytes) nine in
+    let page = met (isDenied m right) width address (passed .3) in
     record {
       width = width;
       right = right;
@@ -110,6 +122,10 @@ violation-denies m (Access width right address) nine =
       accessed = refl;
       right-known = leb-true right 1 (not-false _ (passed .0));
       inside = λ byte t. leb-false (memorySize m) byte (none-meets (isOutsideMemory m) width address (passed .1) byte t);
+      not-pending = passed .2;
+      denied = page .byte;
+      denied-touched = page .touches;
+      apart = page .meets;
     }
 violation-denies m (Grant right page s) nine = absurd (not-nine m (Grant right page s) refl nine)
 violation-denies m (Revoke right page s) nine = absurd (not-nine m (Revoke right page s) refl nine)

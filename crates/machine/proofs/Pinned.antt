@@ -6,13 +6,14 @@ use mathlib.Core.Path.{_≡_, refl}
 use mathlib.Core.Bool.{Bool, true, false}
 use mathlib.Core.List.{List, [], _∷_, _++_, map}
 use lib.Count.{trailingZeros}
+use lib.Dec.{eqb}
 use lib.ListN.{replicate}
 use Rattle.rules.specs.Domains.{domainBit, prevailing}
 use Rattle.rules.specs.declared.registers.Mode.{Mode}
 use Rattle.rules.specs.declared.registers.Mode.the-variants.{User, Privileged}
 use Rattle.rules.specs.declared.registers.Registers.{Registers}
 use Rattle.machine.specs.Machine.{zero, noProgram, isRight, isSound, memorySize, placeOf, fieldOf, withFields, withRegisters, withStack, withPrograms, withLast, withLent}
-use Rattle.machine.specs.Calls.{asPage, asDomain, inPrivilegedMode, inUserMode, pageOf, modeOf, violated, callOf, uncheckedOf, changeCall, keeping, handedOut, silent, checksOf, accessChecks, changeChecks, effectOf, entered, returned, switched, after}
+use Rattle.machine.specs.Calls.{asPage, asDomain, inPrivilegedMode, inUserMode, pageOf, touched, any, modeOf, violated, callOf, uncheckedOf, changeCall, keeping, handedOut, silent, checksOf, accessChecks, changeChecks, effectOf, entered, returned, switched, after}
 use Rattle.machine.specs.Listed.{isIn, listed, soundNumbers}
 use Rattle.machine.specs.declared.record.Machine.{Machine}
 use Rattle.machine.specs.declared.record.Program.{Program}
@@ -21,7 +22,7 @@ use Rattle.machine.specs.declared.record.LastViolation.{LastViolation}
 use Rattle.machine.specs.declared.record.LastViolation.the-variants.{Absent}
 use Rattle.machine.specs.declared.record.Report.the-variants.{Nothing, Denied}
 use Rattle.machine.specs.declared.record.Answered.{Answered}
-use Rattle.machine.specs.declared.record.Width.the-variants.{One}
+use Rattle.machine.specs.declared.record.Width.the-variants.{One, Two}
 use Rattle.machine.specs.declared.record.Call.{Call}
 use Rattle.machine.specs.declared.record.Call.the-variants.{Access, Grant, Revoke, SetMask, Enter, Return, Switch, StoreField, StoreContext, StoreMask, StoreMode, AskViolation}
 use Rattle.machine.proofs.Written.{stored, live, denied, holding, whole, gives, Answers, both}
@@ -62,6 +63,30 @@ pub places :
     × (map (pageOf m) (0 ∷ 511 ∷ 512 ∷ 65535 ∷ 65536 ∷ []) ≡ 0 ∷ 0 ∷ 1 ∷ 127 ∷ 128 ∷ [])
     × (memorySize m ∷ memorySize (whole 3 5 [] (live 0 0 User false) 0 [] 1 0 []) ∷ [] ≡ 65536 ∷ 96 ∷ [])
 places = (refl, refl, refl, refl)
+
+-- the bytes that accesses touch, past the greatest address too, and one of a list that meets a condition
+pub bytes-touched :
+    (map (touched One) (0 ∷ 255 ∷ 0xFFFFFFFF ∷ []) ≡ (0 ∷ []) ∷ (255 ∷ []) ∷ (0xFFFFFFFF ∷ []) ∷ [])
+    × (map (touched Two) (0 ∷ 255 ∷ 0xFFFFFFFF ∷ []) ≡ (0 ∷ 1 ∷ []) ∷ (255 ∷ 256 ∷ []) ∷ (0xFFFFFFFF ∷ 0x100000000 ∷ []) ∷ [])
+    × (map (any (eqb 3)) ([] ∷ (3 ∷ []) ∷ (1 ∷ 3 ∷ []) ∷ (3 ∷ 1 ∷ []) ∷ (1 ∷ 2 ∷ []) ∷ []) ≡ false ∷ true ∷ true ∷ true ∷ false ∷ [])
+bytes-touched = (refl, refl, refl)
+
+-- accesses of two bytes about the last page: it gives READ and WRITE, the page before it neither. And without the check for 1, where memory goes on past
+-- the greatest address: the second byte is on page 1 there, not on page 0 again.
+pub last-page-words :
+    let far : ℕ → Machine = λ second. whole 2 32 (1 ∷ 0 ∷ second ∷ 0 ∷ []) (live 3 3 User false) 0 [] 1 0 [] in
+    (Answers callOf (wide (last 0x0300 0x8200) (live 0x0300 0xFFFF User false))
+    ((Access Two 0 65534, 0)
+    ∷ (Access Two 1 65024, 0)
+    ∷ (Access Two 0 65023, 9)
+    ∷ (Access Two 1 65022, 9)
+    ∷ (Access Two 0 65535, 3)
+    ∷ (Access Two 2 65535, 2)
+    ∷ []))
+    × (Answers uncheckedOf (far 2) ((Access Two 0 0xFFFFFFFF, 0) ∷ (Access Two 1 0xFFFFFFFF, 9) ∷ []))
+    × (Answers uncheckedOf (far 4) ((Access Two 0 0xFFFFFFFF, 9) ∷ (Access Two 0 0xFFFFFFFE, 0) ∷ []))
+unfolding callOf uncheckedOf checksOf accessChecks isSound
+last-page-words = (refl, refl, refl)
 
 pub last-page-order :
     (Answers callOf (wide (last 0x0300 0x8200) (live 0x0300 0xFFFF User false))

@@ -1,7 +1,7 @@
 -- The bytes that an access touches are those from its address on, as many as its width has: what one of them meets, and what none of them does.
 -- A width has its bytes one by one, so that each law is shown by them.
-use Prim.Native.Nat.{ℕ, _+_, _≤_, _<_}
-use mathlib.Core.Path.{_≡_, refl}
+use Prim.Native.Nat.{ℕ, _+_, _-_, _≤_, _<_}
+use mathlib.Core.Path.{_≡_, refl, sym, _∙_}
 use mathlib.Core.Bool.{Bool, true, false, _||_, or-false, true≢false}
 use mathlib.Core.List.{List, [], _∷_}
 use borrow.Author.Tests.{eqb-true, eqb-false}
@@ -60,7 +60,40 @@ module _ (p : ℕ → Bool) where
   none-met One address each = rw (each address (omega arith, omega arith))
   none-met Two address each = rw (each address (omega arith, omega arith), each (address + 1) (omega arith, omega arith))
 
+  -- where one of them meets it, here is that byte
+  pub record Met (width : Width) (address : ℕ) : Type 0 where
+    pub byte : ℕ
+    pub touches : Touches width address byte
+    pub meets : p byte ≡ true
+
+  pub met : (width : Width) (address : ℕ) → any p (touched width address) ≡ true → Met width address
+  met One address some =
+      record { byte = address; touches = (omega arith, omega arith); meets = rw (or-false (p address)) at some }
+  met Two address some = split (p address) refl
+    where
+      split : (b : Bool) → p address ≡ b → Met Two address
+      split true e = record { byte = address; touches = (omega arith, omega arith); meets = e }
+      split false e =
+          record {
+            byte = address + 1;
+            touches = (omega arith, omega arith);
+            meets = rw (e, or-false (p (address + 1))) at some;
+          }
+
+  -- and where a byte that is touched meets it, one of them does
+  pub some-meets : (width : Width) (address byte : ℕ) → Touches width address byte → p byte ≡ true → any p (touched width address) ≡ true
+  some-meets width address byte t meets = split (any p (touched width address)) refl
+    where
+      split : (b : Bool) → any p (touched width address) ≡ b → b ≡ true
+      split true e = refl
+      split false e = absurd (true≢false (sym meets ∙ none-meets width address e byte t))
+
 -- the byte at the address is one of them
 pub first-touched : (width : Width) (address : ℕ) → Touches width address address
 first-touched One address = (omega arith, omega arith)
 first-touched Two address = (omega arith, omega arith)
+
+-- and so is the one before its end
+pub last-touched : (width : Width) (address : ℕ) → Touches width address (address + bytes width - 1)
+last-touched One address = (omega arith, omega arith)
+last-touched Two address = (omega arith, omega arith)
