@@ -89,8 +89,8 @@
  * function or constant. The library carries no number, so take the two from
  * the same checkout.
  */
-#define BENCH_VERSION_MAJOR 1
-#define BENCH_VERSION_MINOR 1
+#define BENCH_VERSION_MAJOR 2
+#define BENCH_VERSION_MINOR 0
 
 /* The longest input that is taken, in bytes. */
 #define BENCH_INPUT_MOST 32768
@@ -132,7 +132,7 @@ enum {
 
 /* The kinds of call, and what each makes of the record's right, A and B. */
 enum {
-    /* access for the right, address A * 65,536 + B */
+    /* access for the right to one byte, address A * 65,536 + B */
     BENCH_KIND_ACCESS = 1,
     /* grant the right to page A to domain B */
     BENCH_KIND_GRANT = 2,
@@ -156,7 +156,10 @@ enum {
     BENCH_KIND_STORE_MODE = 11,
     /* the kernel's question for the last violation: who was denied what; a run
        gives its number alone, not what it hands out */
-    BENCH_KIND_ASK_VIOLATION = 12
+    BENCH_KIND_ASK_VIOLATION = 12,
+    /* access for the right to two bytes, address A * 65,536 + B and the next;
+       the page of each must give the right */
+    BENCH_KIND_ACCESS_TWO = 13
 };
 
 /* The answers. */
@@ -170,7 +173,8 @@ enum {
     BENCH_ANSWER_NOT_SOUND = 1,
     /* the right is above 1 */
     BENCH_ANSWER_BAD_RIGHT = 2,
-    /* the address is outside memory, which has page count * page size bytes */
+    /* the address is outside memory, which has page count * page size bytes,
+       or that of the second byte is; nothing wraps */
     BENCH_ANSWER_BAD_ADDRESS = 3,
     /* there is no such page: the page count or above */
     BENCH_ANSWER_BAD_PAGE = 4,
@@ -183,9 +187,10 @@ enum {
     BENCH_ANSWER_IN_USER = 7,
     /* an interrupt is pending: no access and no command before its entry */
     BENCH_ANSWER_PENDING = 8,
-    /* violation: the field of the right and the local context, which is global
-       context AND mask, share no domain; an interrupt is now pending, and the
-       machine keeps program, right and address as the last violation */
+    /* violation: the field of the right to the page of a byte that is touched
+       and the local context, which is global context AND mask, share no
+       domain; an interrupt is now pending, and the machine keeps program,
+       right and address, of two bytes the first one's, as the last violation */
     BENCH_ANSWER_VIOLATION = 9,
     /* the table has no entry for the current program; not in a run */
     BENCH_ANSWER_NO_TABLE_ENTRY = 10,

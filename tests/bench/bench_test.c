@@ -20,7 +20,7 @@
 enum {
     GUARD = 64,           /* guard bytes on each side of a buffer */
     SHORT_COUNT = 64,     /* up to this many answers, every room is tried */
-    CASES_MOST = 256,
+    CASES_MOST = 512,
     TEXT_INPUT_MOST = 1024,
 };
 
@@ -63,6 +63,8 @@ enum {
 #define WRITE_PAGE(p) " 01 01 00 00 " p " 00 "
 #define MASK(bits) " 04 00 00 00 " bits " "
 #define QUESTION " 0C 00 00 00 00 00 "
+#define READ_TWO(address) " 0D 00 00 00 " address " "
+#define WRITE_TWO(address) " 0D 01 00 00 " address " "
 
 struct text_case {
     const char *name;
@@ -235,6 +237,35 @@ static const struct text_case text_cases[] = {
      "0 9 0 0 0 0 0 0 0 0 0 7 0"},
     {"the question at a start in privileged mode",
      FIRST_PRIVILEGED QUESTION WRITE_PAGE("00") QUESTION, "0 0 0 0"},
+
+    /* Accesses of two bytes. READ of pages 0 and 1 is given to program 0
+       through domains 0 and 1, of page 2 not; WRITE of page 1 alone. */
+    {"two bytes on one page and on two",
+     SAMPLE READ_TWO("00 00") READ_TWO("00 FE") READ_TWO("00 FF")
+     READ_TWO("01 00") READ_TWO("01 FE") READ_TWO("01 FF"),
+     "0 0 0 0 0 0 9"},
+    {"two bytes, the first page denies alone",
+     SAMPLE WRITE_TWO("00 FF") READ_TWO("00 00"), "0 9 8"},
+    {"two bytes, the second page denies alone",
+     SAMPLE WRITE_TWO("01 FE") WRITE_TWO("01 FF"), "0 0 9"},
+    {"two bytes, both pages deny",
+     SAMPLE MASK("00 00") READ_TWO("00 FF"), "0 0 9"},
+    {"two bytes about the end of memory and of the addresses",
+     SAMPLE READ_TWO("02 FF") READ_TWO("03 00") "0D 00 FF FF FF FE "
+     "0D 01 FF FF FF FF" READ_TWO("02 FE"), "0 3 3 3 3 9"},
+    {"two bytes in privileged mode",
+     SAMPLE ENTRY WRITE_TWO("00 FF") READ_TWO("01 FF") READ_TWO("02 FE")
+     READ_TWO("02 FF") "0D 00 FF FF FF FF  0D 02 00 00 00 00",
+     "0 0 0 0 0 3 3 2"},
+    {"two bytes in the order of one",
+     SAMPLE "0D 02 00 00 02 FF  0D FF FF FF FF FF" READ_TWO("02 00")
+     "0D 02 00 00 00 00" READ_TWO("02 FF") READ_TWO("00 00"),
+     "0 2 2 9 2 3 8"},
+    {"two bytes after a grant of the second page",
+     SAMPLE TURN_OF("01") WRITE_TWO("01 FE") TURN_OF("00")
+     "02 01 00 01 00 03" TURN_OF("01") WRITE_TWO("01 FE")
+     WRITE_TWO("00 FF"),
+     "0 0 0 0 9 0 0 0 0 0 0 0 0 9"},
 
     /* The stack of saved modes. */
     {"nine entries and nine returns",
@@ -481,6 +512,125 @@ static void add_full_input(void)
     add_case("5,455 calls and more in 32,769 bytes", input, 32769, answers, 0);
 }
 
+/* Whether a page gives a right: of any four pages in a row two do, so that a
+   shift by 0 to 3 brings each of the four pairs to each edge. */
+static bool page_gives(unsigned page, unsigned right, unsigned shift)
+{
+    return ((page + right + shift) & 2) != 0;
+}
+
+/* What an access of so many bytes gets, in user mode with the flag clear, on
+   whole memory of a page size. */
+static uint8_t edge_answer(unsigned long first, unsigned width, unsigned right,
+                           unsigned exponent, unsigned pages, unsigned shift)
+{
+    for (unsigned long byte = first; byte < first + width; byte++) {
+        if (byte >> exponent >= pages)
+            return BENCH_ANSWER_BAD_ADDRESS;
+    }
+    for (unsigned long byte = first; byte < first + width; byte++) {
+        if (!page_gives((unsigned)(byte >> exponent), right, shift))
+            return BENCH_ANSWER_VIOLATION;
+    }
+    return BENCH_ANSWER_DONE;
+}
+
+static size_t put_call(uint8_t *at, unsigned kind, unsigned right,
+                       unsigned long address)
+{
+    at[0] = (uint8_t)kind;
+    at[1] = (uint8_t)right;
+    at[2] = (uint8_t)(address >> 24);
+    at[3] = (uint8_t)(address >> 16);
+    at[4] = (uint8_t)(address >> 8);
+    at[5] = (uint8_t)address;
+    return 6;
+}
+
+/*
+ * Both sides of every page edge, the end of memory among them, by accesses of
+ * one byte and of two, for a page size and a right: in user mode, and after an
+ * entry in privileged mode, where only memory's end counts. A page that gives
+ * a right does so through domain page % 3, so that neighbours differ; one that
+ * does not holds every domain that the program has not.
+ */
+static void add_page_edges(unsigned exponent, unsigned right, unsigned shift)
+{
+    static uint8_t input[BENCH_INPUT_MOST];
+    static uint8_t answers[BENCH_ANSWERS_MOST];
+    unsigned pages = 65536u >> exponent < 128 ? 65536u >> exponent : 128;
+    unsigned programs_offset = 22 + 4 * pages;
+    const uint8_t head[] = {
+        (uint8_t)((programs_offset + 5) >> 8), (uint8_t)(programs_offset + 5),
+        1, 0, 0, 18, 0, 4,
+        2, 0, 0, 22, (uint8_t)(4 * pages >> 8), (uint8_t)(4 * pages),
+        3, 0, (uint8_t)(programs_offset >> 8), (uint8_t)programs_offset, 0, 5,
+        (uint8_t)pages, (uint8_t)exponent, 1, 0,
+    };
+    memcpy(input, head, sizeof head);
+    size_t length = sizeof head;
+    for (unsigned page = 0; page < pages; page++) {
+        for (unsigned r = 0; r < 2; r++) {
+            bool gives = page_gives(page, r, shift);
+            input[length++] = gives ? 0x00 : 0xFF;
+            input[length++] = gives ? (uint8_t)(1u << page % 3) : 0xF8;
+        }
+    }
+    length += numbers("00 07 FF FF 00", 16, input + length, 5);
+
+    size_t count = 0;
+    answers[count++] = BENCH_ANSWER_DONE;
+    for (unsigned long edge = 1; edge <= pages; edge++) {
+        for (unsigned long back = 3; back > 0; back--) {
+            unsigned long address = (edge << exponent) + 1 - back;
+            for (unsigned width = 1; width <= 2; width++) {
+                unsigned kind = width == 1 ? BENCH_KIND_ACCESS
+                                           : BENCH_KIND_ACCESS_TWO;
+                uint8_t answer = edge_answer(address, width, right, exponent,
+                                             pages, shift);
+                length += put_call(input + length, kind, right, address);
+                answers[count++] = answer;
+                if (answer != BENCH_ANSWER_VIOLATION)
+                    continue;
+                length += put_call(input + length, BENCH_KIND_ENTRY, 0, 0);
+                length += put_call(input + length, kind, right, address);
+                length += put_call(input + length, BENCH_KIND_RETURN, 0, 0);
+                memset(answers + count, BENCH_ANSWER_DONE, 3);
+                count += 3;
+            }
+        }
+    }
+    static const unsigned long far[] = {0xFFFE, 0xFFFF, 0x10000, 0xFFFFFFFE,
+                                        0xFFFFFFFF};
+    length += put_call(input + length, BENCH_KIND_ENTRY, 0, 0);
+    answers[count++] = BENCH_ANSWER_DONE;
+    for (size_t i = 0; i < sizeof far / sizeof far[0]; i++) {
+        for (unsigned width = 1; width <= 2; width++) {
+            unsigned kind = width == 1 ? BENCH_KIND_ACCESS
+                                       : BENCH_KIND_ACCESS_TWO;
+            length += put_call(input + length, kind, right, far[i]);
+            bool outside = (far[i] + width - 1) >> exponent >= pages;
+            answers[count++] = outside ? BENCH_ANSWER_BAD_ADDRESS
+                                       : BENCH_ANSWER_DONE;
+        }
+    }
+
+    char name[64];
+    snprintf(name, sizeof name, "edges of pages of %u bytes, right %u, shift %u",
+             1u << exponent, right, shift);
+    add_case(name, input, length, answers, count);
+}
+
+static void add_every_page_edge(void)
+{
+    for (unsigned exponent = 5; exponent <= 12; exponent++) {
+        for (unsigned shift = 0; shift < 4; shift++) {
+            add_page_edges(exponent, BENCH_RIGHT_READ, shift);
+            add_page_edges(exponent, BENCH_RIGHT_WRITE, shift);
+        }
+    }
+}
+
 /* The sample's input filled up with zeros; a record of zeros is no call. */
 static void add_long_inputs(void)
 {
@@ -649,7 +799,7 @@ static void check_constants(void)
         BENCH_KIND_MASK, BENCH_KIND_ENTRY, BENCH_KIND_RETURN,
         BENCH_KIND_SWITCH, BENCH_KIND_STORE_FIELD, BENCH_KIND_STORE_CONTEXT,
         BENCH_KIND_STORE_MASK, BENCH_KIND_STORE_MODE,
-        BENCH_KIND_ASK_VIOLATION,
+        BENCH_KIND_ASK_VIOLATION, BENCH_KIND_ACCESS_TWO,
     };
     static const int answers[] = {
         BENCH_ANSWER_DONE, BENCH_ANSWER_NOT_SOUND, BENCH_ANSWER_BAD_RIGHT,
@@ -666,7 +816,7 @@ static void check_constants(void)
         BENCH_ANSWER_IMAGE_SHAPE_ENTRY, BENCH_ANSWER_IMAGE_SHAPE,
         BENCH_ANSWER_IMAGE_BODY_ENTRY, BENCH_ANSWER_IMAGE_MODE,
     };
-    for (int i = 0; i < 12; i++)
+    for (int i = 0; i < 13; i++)
         check(kinds[i] == 1 + i, "kind %d is %d in bench.h", 1 + i, kinds[i]);
     for (int i = 0; i < 19; i++)
         check(answers[i] == i, "answer %d is %d in bench.h", i, answers[i]);
@@ -687,6 +837,7 @@ int main(void)
     add_longest_image();
     add_full_input();
     add_long_inputs();
+    add_every_page_edge();
 
     check_constants();
 

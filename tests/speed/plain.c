@@ -117,6 +117,19 @@ static inline bool sound(const struct machine *m)
                 && m->last.address < memory_bytes(m)));
 }
 
+static inline bool page_gives(const struct machine *m, uint8_t right,
+                              uint32_t address)
+{
+    return (m->fields[address >> m->exponent][right] & local_context(m)) != 0;
+}
+
+static uint8_t violation(struct machine *m, uint8_t right, uint32_t address)
+{
+    m->pending = true;
+    m->last = (struct violation){true, m->current, right, address};
+    return VIOLATION;
+}
+
 static uint8_t machine_access(struct machine *m, uint8_t right,
                               uint32_t address)
 {
@@ -130,11 +143,26 @@ static uint8_t machine_access(struct machine *m, uint8_t right,
         return DONE;
     if (m->pending)
         return IS_PENDING;
-    if ((m->fields[address >> m->exponent][right] & local_context(m)) == 0) {
-        m->pending = true;
-        m->last = (struct violation){true, m->current, right, address};
-        return VIOLATION;
-    }
+    if (!page_gives(m, right, address))
+        return violation(m, right, address);
+    return DONE;
+}
+
+static uint8_t machine_access_two(struct machine *m, uint8_t right,
+                                  uint32_t address)
+{
+    if (!sound(m))
+        return NOT_SOUND;
+    if (right > 1)
+        return BAD_RIGHT;
+    if ((uint64_t)address + 1 >= memory_bytes(m))
+        return BAD_ADDRESS;
+    if (m->privileged)
+        return DONE;
+    if (m->pending)
+        return IS_PENDING;
+    if (!page_gives(m, right, address) || !page_gives(m, right, address + 1))
+        return violation(m, right, address);
     return DONE;
 }
 
@@ -404,6 +432,8 @@ static uint8_t make_call(struct machine *m, const uint8_t *record)
         struct violation last;
         return machine_ask_violation(m, &last);
     }
+    case 13:
+        return machine_access_two(m, right, (uint32_t)a << 16 | b);
     default:
         return NOT_A_CALL;
     }

@@ -42,6 +42,7 @@ enum kind {
     STORE_MASK = 10,
     STORE_MODE = 11,
     ASK_VIOLATION = 12,
+    ACCESS_TWO = 13,
 };
 
 struct input {
@@ -165,6 +166,23 @@ static void build_access(struct input *in)
     put_call(in, ENTRY, 0, 0, 0);
     while (has_room(in))
         put_access(in);
+}
+
+/* The same with accesses of two bytes, about one in 256 across an edge. */
+static void put_access_two(struct input *in)
+{
+    unsigned right = below(2);
+    put_call(in, ACCESS_TWO, right, 0, below(MEMORY - 1));
+}
+
+static void build_word(struct input *in)
+{
+    put_image(in, false);
+    while (in->length < sizeof in->bytes * 3 / 4)
+        put_access_two(in);
+    put_call(in, ENTRY, 0, 0, 0);
+    while (has_room(in))
+        put_access_two(in);
 }
 
 /* In turn, so that the time is the calls' own and not of wrong guesses. */
@@ -300,6 +318,7 @@ struct workload {
 
 static const struct workload workloads[] = {
     {"access", build_access, true},
+    {"word", build_word, true},
     {"grant", build_grant, true},
     {"mask", build_mask, true},
     {"entry", build_entry, true},

@@ -2,7 +2,7 @@
 -- A width has its bytes one by one, so that each law is shown by them.
 use Prim.Native.Nat.{ℕ, _+_, _-_, _≤_, _<_}
 use mathlib.Core.Path.{_≡_, refl, sym, _∙_}
-use mathlib.Core.Bool.{Bool, true, false, _||_, or-false, true≢false}
+use mathlib.Core.Bool.{Bool, true, false, _||_, or-false, or-self, true≢false}
 use mathlib.Core.List.{List, [], _∷_}
 use borrow.Author.Tests.{eqb-true, eqb-false}
 use native.Mathlib.Omega.{arith}
@@ -37,6 +37,10 @@ module _ (p : ℕ → Bool) where
 
   pub any-two : {width : Width} (address : ℕ) → width ≡ Two → any p (touched width address) ≡ p (address + 0) || p (address + 1)
   any-two address two = rw (two, add-zero address, or-false (p (address + 1)))
+
+  -- two bytes of which both meet it or neither
+  pub any-alike : {width : Width} (address : ℕ) → width ≡ Two → p (address + 1) ≡ p (address + 0) → any p (touched width address) ≡ p (address + 0)
+  any-alike address two alike = rw (any-two address two, alike) (or-self (p (address + 0)))
 
   -- where none of them meets a condition, a byte that is touched does not
   pub none-meets : (width : Width) (address : ℕ) → any p (touched width address) ≡ false → (byte : ℕ) → Touches width address byte → p byte ≡ false

@@ -103,7 +103,7 @@ fn any_outside(pages: u16, exponent: u8, width: Width, address: u32) -> bool
 {
     match width {
         Width::One => outside(pages, exponent, address, 0),
-        Width::Two => outside(pages, exponent, address, 0) | outside(pages, exponent, address, 1),
+        Width::Two => outside(pages, exponent, address, 1) | outside(pages, exponent, address, 0),
     }
 }
 
@@ -115,7 +115,8 @@ fn denied(fields: &[u16], exponent: u8, local: u16, right: u8, address: u32, ahe
     read_field(fields, 2 * page + right as usize) & local == 0
 }
 
-// The page of some byte that an access touches does not (RULES 3.2, for 9). Each byte is asked by itself: fields are never joined.
+// The page of some byte that an access touches does not (RULES 3.2, for 9). Each page is asked by itself: fields are never joined. Two bytes on one page, as
+// most are, ask it once.
 fn any_denied(
     fields: &[u16],
     exponent: u8,
@@ -129,6 +130,9 @@ fn any_denied(
     match width {
         Width::One => denied(fields, exponent, local, right, address, 0),
         Width::Two => {
+            if page_of(address, 1, exponent) == page_of(address, 0, exponent) {
+                return denied(fields, exponent, local, right, address, 0);
+            }
             denied(fields, exponent, local, right, address, 0)
                 | denied(fields, exponent, local, right, address, 1)
         }
