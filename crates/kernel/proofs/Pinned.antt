@@ -57,7 +57,7 @@ turn-spelled m program = refl
 
 -- accesses of two bytes and of one that are allowed, one that is a violation, and one while it is pending
 pub requests-served :
-    (servedOf (node 0 false) (Read Two 30 ∷ Read One 31 ∷ Write One 0 ∷ Read One 0 ∷ []) ≡ record { refused = 2; machine = withLast (denied 0 1 0) (node 0 true) })
+    (servedOf (node 0 false) (Read Two 30 ∷ Read One 31 ∷ Read Two 0 ∷ Write One 0 ∷ Read One 0 ∷ []) ≡ record { refused = 2; machine = withLast (denied 0 1 0) (node 0 true) })
     × (servedOf (node 0 false) [] ≡ record { refused = 0; machine = node 0 false })
 unfolding servedOf callOf checksOf accessChecks effectOf after isSound
 requests-served = (refl, refl)
