@@ -4,9 +4,11 @@
 use Prim.Native.Nat.{ℕ, _*_, _+_, _≤_, _<_}
 use mathlib.Core.Path.{_≡_, refl}
 use mathlib.Core.Bool.{true, false}
-use mathlib.Core.List.{List, [], _∷_, _++_}
+use mathlib.Core.List.{List, [], _∷_, _++_, map}
 use lib.Count.{trailingZeros}
+use lib.Dec.{eqb}
 use lib.ListN.{getD, replicate}
+use Rattle.rules.specs.Refusals.{pick}
 use Rattle.rules.specs.Domains.{domainBit, holds, prevailing}
 use Rattle.rules.specs.declared.domains.Prevailing.the-variants.{At}
 use Rattle.rules.specs.declared.registers.Mode.the-variants.{User}
@@ -14,12 +16,14 @@ use Rattle.machine.specs.Machine.{isSound}
 use Rattle.machine.specs.Calls.{accessChecks, after, callOf, checksOf, changeChecks, effectOf, entered, returned, switched}
 use Rattle.machine.specs.declared.record.Machine.{Machine}
 use Rattle.machine.specs.declared.record.Program.{Program}
+use Rattle.machine.specs.declared.record.Page.{Page}
+use Rattle.machine.specs.declared.record.Domain.{Domain}
 use Rattle.machine.specs.declared.record.Width.the-variants.{One, Two}
 use Rattle.machine.specs.declared.record.Call.{Call}
 use Rattle.machine.specs.declared.record.Call.the-variants.{Access, Enter, Grant, Return, Revoke, SetMask, Switch}
 use Rattle.machine.proofs.Written.{stored, live, whole}
 use Rattle.image.specs.Load.{loadOf}
-use Rattle.isolation.specs.Histories.{Command, access, grant, revoke, setMask, History, Made, Turn, TurnCalls, callsOf, turnsOf}
+use Rattle.isolation.specs.Histories.{Command, access, grant, revoke, setMask, History, Made, Turn, TurnCalls, callsOf, commandCall, turnCalls, turnsOf}
 use Rattle.isolation.specs.Isolation.{Apart, InTable, Isolated, Observation, ThirdDemand, contextOf, observed, observedFrom, ownTurns, rightsOf, takenOut}
 
 abbrev unused : Program
@@ -63,10 +67,10 @@ by program commands = record { program = program; commands = commands }
 abbrev history : History
 history =
     record {
-      opening = grant 0 (record { 0 = 0 }) (record { 0 = 10 }) ∷ access Two 0 255 ∷ [];
+      opening = grant 0 (record { 0 = 0 }) (record { 0 = 10 }) ∷ access Two 0 255 ∷ setMask 0xFFFF ∷ [];
       turns =
           by 1 (grant 1 (record { 0 = 1 }) (record { 0 = 15 }) ∷ setMask 0x0200 ∷ [])
-          ∷ by 2 (access One 1 256 ∷ [])
+          ∷ by 2 (access Two 1 256 ∷ [])
           ∷ by 1 (revoke 1 (record { 0 = 1 }) (record { 0 = 10 }) ∷ access One 1 511 ∷ access One 0 511 ∷ setMask 0 ∷ [])
           ∷ [];
     }
@@ -77,7 +81,7 @@ pub table-asked :
 table-asked = refl
 
 abbrev opens : List Call
-opens = Grant 0 (record { 0 = 0 }) (record { 0 = 10 }) ∷ Access Two 0 255 ∷ []
+opens = Grant 0 (record { 0 = 0 }) (record { 0 = 10 }) ∷ Access Two 0 255 ∷ SetMask 0xFFFF ∷ []
 
 abbrev begins : ℕ → List Call → List Call
 begins program commands = Enter ∷ Switch program ∷ Return ∷ commands
@@ -93,10 +97,10 @@ turn program calls = record { program = program; calls = calls }
 
 -- the turns as calls, and what is compared for each program
 pub turns-taken :
-    (turnsOf small history ≡ turn 0 opens ∷ turn 1 (begins 1 second) ∷ turn 2 (begins 2 (Access One 1 256 ∷ [])) ∷ turn 1 (begins 1 fourth) ∷ [])
+    (turnsOf small history ≡ turn 0 opens ∷ turn 1 (begins 1 second) ∷ turn 2 (begins 2 (Access Two 1 256 ∷ [])) ∷ turn 1 (begins 1 fourth) ∷ [])
     × (ownTurns small 0 history ≡ opens ∷ [])
     × (ownTurns small 1 history ≡ begins 1 second ∷ begins 1 fourth ∷ [])
-    × (ownTurns small 2 history ≡ begins 2 (Access One 1 256 ∷ []) ∷ [])
+    × (ownTurns small 2 history ≡ begins 2 (Access Two 1 256 ∷ []) ∷ [])
     × (ownTurns small 3 history ≡ [])
 turns-taken = (refl, refl, refl, refl, refl)
 
@@ -106,7 +110,7 @@ made program call = record { program = program; call = call }
 -- the calls of turns, in order, each with the program in whose turn it stands
 pub calls-made :
     callsOf (turn 0 opens ∷ turn 2 (begins 2 (Access One 1 256 ∷ [])) ∷ turn 1 [] ∷ turn 1 (SetMask 0 ∷ []) ∷ [])
-    ≡ made 0 (Grant 0 (record { 0 = 0 }) (record { 0 = 10 })) ∷ made 0 (Access Two 0 255) ∷ made 2 Enter ∷ made 2 (Switch 2) ∷ made 2 Return
+    ≡ made 0 (Grant 0 (record { 0 = 0 }) (record { 0 = 10 })) ∷ made 0 (Access Two 0 255) ∷ made 0 (SetMask 0xFFFF) ∷ made 2 Enter ∷ made 2 (Switch 2) ∷ made 2 Return
     ∷ made 2 (Access One 1 256) ∷ made 1 (SetMask 0) ∷ []
 calls-made = refl
 
@@ -122,9 +126,11 @@ rights-seen = (refl, refl, refl, refl)
 abbrev shown : ℕ → List ℕ → List ℕ → Observation
 shown number before after = record { number = number; before = before; after = after }
 
--- what each program observes: program 0 its two calls, of which the second reads across the edge to a page that it may not read, program 2 what program 1 may do to domain 10, in between
+-- what each program observes: program 0 its three calls, of which the second reads across the edge to a page that it may not read and the third finds the
+-- flag set, program 2 what program 1 may do to domain 10, in between
 pub history-observed :
-    (observed small 0 history ≡ shown 0 (1 ∷ 0 ∷ 0 ∷ 0 ∷ []) (1 ∷ 0 ∷ 0 ∷ 0 ∷ []) ∷ shown 9 (1 ∷ 0 ∷ 0 ∷ 0 ∷ []) (1 ∷ 0 ∷ 0 ∷ 0 ∷ []) ∷ [])
+    (observed small 0 history ≡ shown 0 (1 ∷ 0 ∷ 0 ∷ 0 ∷ []) (1 ∷ 0 ∷ 0 ∷ 0 ∷ []) ∷ shown 9 (1 ∷ 0 ∷ 0 ∷ 0 ∷ []) (1 ∷ 0 ∷ 0 ∷ 0 ∷ [])
+    ∷ shown 8 (1 ∷ 0 ∷ 0 ∷ 0 ∷ []) (1 ∷ 0 ∷ 0 ∷ 0 ∷ []) ∷ [])
     × (observed small 1 history
     ≡ replicate 5 (shown 0 (0x0200 ∷ 0 ∷ 0 ∷ 0x0200 ∷ []) (0x0200 ∷ 0 ∷ 0 ∷ 0x0200 ∷ []))
     ++ (replicate 5 (shown 0 (0x0200 ∷ 0 ∷ 0 ∷ 0x0200 ∷ []) (0x0200 ∷ 0 ∷ 0 ∷ 0x0200 ∷ []))
@@ -142,3 +148,22 @@ pub history-observed :
     ++ (shown 0 (0x0300 ∷ 0 ∷ 0 ∷ 0x0600 ∷ []) (0x0300 ∷ 0 ∷ 0 ∷ 0x0200 ∷ []) ∷ []))
 unfolding observed observedFrom rightsOf callOf checksOf accessChecks changeChecks effectOf entered switched returned after isSound domainBit prevailing trailingZeros
 history-observed = (refl, refl, refl, refl, refl, refl)
+
+-- a command's call, a turn's calls and the turns of a history, whatever they are
+pub commands-spelled : (right address bits : ℕ) (page : Page) (s : Domain)
+    → map commandCall (access One right address ∷ access Two right address ∷ grant right page s ∷ revoke right page s ∷ setMask bits ∷ [])
+    ≡ Access One right address ∷ Access Two right address ∷ Grant right page s ∷ Revoke right page s ∷ SetMask bits ∷ []
+commands-spelled right address bits page s = refl
+
+pub turns-spelled : (start : Machine) (program : ℕ) (commands : List Command) (h : History)
+    → (turnCalls (by program commands) ≡ turn program (Enter ∷ Switch program ∷ Return ∷ map commandCall commands))
+    × (turnsOf start h ≡ turn (start .current) (map commandCall (h .opening)) ∷ map turnCalls (h .turns))
+turns-spelled start program commands h = (refl, refl)
+
+-- what a call shows, and the machine that the next one is made on
+pub observed-spelled : (chosen context : ℕ) (m : Machine) (program : ℕ) (call : Call) (rest : List Made)
+    → let next = observedFrom chosen context (callOf m call .machine) rest in
+    observedFrom chosen context m (made program call ∷ rest)
+    ≡ pick (eqb program chosen) (shown (callOf m call .number) (rightsOf context m) (rightsOf context (callOf m call .machine)) ∷ next) next
+unfolding observedFrom
+observed-spelled chosen context m program call rest = refl

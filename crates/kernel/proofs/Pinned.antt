@@ -8,25 +8,34 @@ use Rattle.rules.specs.declared.registers.Mode.the-variants.{User}
 use Rattle.machine.specs.Machine.{isSound, withLast}
 use Rattle.machine.specs.Calls.{callOf, checksOf, accessChecks, effectOf, entered, returned, switched, after}
 use Rattle.machine.specs.declared.record.Machine.{Machine}
+use Rattle.machine.specs.declared.record.Page.{Page}
+use Rattle.machine.specs.declared.record.Domain.{Domain}
 use Rattle.machine.specs.declared.record.Width.the-variants.{One, Two}
 use Rattle.machine.specs.declared.record.Call.the-variants.{Access, Grant, Revoke, SetMask, Enter, Return, Switch}
 use Rattle.machine.proofs.Written.{stored, live, denied, whole}
 use Rattle.kernel.specs.Kernel.{callFor, begunOf, servedOf}
 use Rattle.kernel.specs.declared.Request.the-variants.{Read, Write, GrantRight, RevokeRight, ReplaceMask}
 
--- the call of each request
-pub calls-for :
-    map callFor
-    (Read One 7
-    ∷ Read Two 7
-    ∷ Write One 8
-    ∷ Write Two 8
-    ∷ GrantRight 3 (record { 0 = 2 }) (record { 0 = 3 })
-    ∷ RevokeRight 2 (record { 0 = 4 }) (record { 0 = 5 })
-    ∷ ReplaceMask 9
+-- the call of each request, whatever its arguments
+pub calls-for : (right address mask : ℕ) (page : Page) (domain : Domain)
+    → map callFor
+    (Read One address
+    ∷ Read Two address
+    ∷ Write One address
+    ∷ Write Two address
+    ∷ GrantRight right page domain
+    ∷ RevokeRight right page domain
+    ∷ ReplaceMask mask
     ∷ [])
-    ≡ Access One 0 7 ∷ Access Two 0 7 ∷ Access One 1 8 ∷ Access Two 1 8 ∷ Grant 3 (record { 0 = 2 }) (record { 0 = 3 }) ∷ Revoke 2 (record { 0 = 4 }) (record { 0 = 5 }) ∷ SetMask 9 ∷ []
-calls-for = refl
+    ≡ Access One 0 address
+    ∷ Access Two 0 address
+    ∷ Access One 1 address
+    ∷ Access Two 1 address
+    ∷ Grant right page domain
+    ∷ Revoke right page domain
+    ∷ SetMask mask
+    ∷ []
+calls-for right address mask page domain = refl
 
 -- READ of the page is held by domain 0, WRITE by none; program 0 is current, and what is stored for it is older than what is live
 abbrev node : ℕ → Bool → Machine

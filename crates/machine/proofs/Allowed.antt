@@ -137,7 +137,7 @@ module _ (m : Machine) (width : Width) (right address : ℕ) where
               let touches = last-touched width address in
               some-meets (isOutsideMemory m) width address last touches (le-leb (memorySize m) last (omega (arith, past, touches .1)))
 
-  -- 9 comes where memory goes on to the last byte and, in user mode with the flag clear, the page of one of the bytes does not give the right; that it comes
+  -- 9 comes where all bytes are in memory, the mode is user, the flag is clear, and the page of one of the bytes does not give the right; that it comes
   -- nowhere else is `violation-denies` (Laws)
   pub denial-answered : isSound m ≡ true → right ≤ 1 → address + bytes width ≤ m .pages * 2 ^ m .exponent → inPrivilegedMode m ≡ false
       → m .registers .pending ≡ false → (byte : ℕ) → Touches width address byte

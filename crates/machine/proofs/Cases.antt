@@ -158,16 +158,20 @@ pub whole-field :
 unfolding callOf checksOf accessChecks changeChecks isSound prevailing domainBit trailingZeros
 whole-field = (refl, refl)
 
--- pages of 32 bytes: the page of an address goes by the page size
+-- pages of 32 bytes and of 4,096: the page of an address goes by the page size
 pub small-pages :
-    Answers callOf (paged 5 figure (live 7 3 User false) 0 (stack User User) 0 (table (stored 7 3 User) (stored 8 65535 User)))
-    ((Access One 0 31, 0) ∷ (Access One 0 64, 9) ∷ (Access One 0 95, 9) ∷ (Access One 0 96, 3) ∷ [])
+    let sized : ℕ → Machine = λ exponent. paged exponent figure (live 7 3 User false) 0 (stack User User) 0 (table (stored 7 3 User) (stored 8 65535 User)) in
+    (Answers callOf (sized 5)
+    ((Access One 0 31, 0) ∷ (Access One 0 64, 9) ∷ (Access One 0 95, 9) ∷ (Access One 0 96, 3)
+    ∷ (Access Two 0 31, 0) ∷ (Access Two 0 62, 0) ∷ (Access Two 0 63, 9) ∷ (Access Two 0 94, 9) ∷ (Access Two 0 95, 3) ∷ []))
+    × (Answers callOf (sized 12)
+    ((Access Two 0 4095, 0) ∷ (Access Two 0 8190, 0) ∷ (Access Two 0 8191, 9) ∷ (Access Two 0 12286, 9) ∷ (Access Two 0 12287, 3) ∷ []))
 unfolding callOf checksOf accessChecks isSound
-small-pages = refl
+small-pages = (refl, refl)
 
--- accesses of two bytes, from the last byte of each page on and within pages: the page of each byte is asked by itself, so that READ of pages 0 and 1 is
--- given through two domains, and of two pages that differ neither is enough. Memory ends behind either byte, in privileged mode too, and the order is
--- that of one byte.
+-- accesses of two bytes, from the last byte of each page on and within pages. The page of each byte is asked by itself: READ of pages 0 and 1 is given
+-- through two domains, and where one of two pages denies, what the other gives does not help. Neither byte may be outside memory, in privileged mode too. The
+-- order is that of one byte. Last, a mask that goes beyond the global context gives nothing.
 pub words-order :
     (Answers callOf (node 0 User false)
     ((Access Two 2 767, 2)
@@ -192,8 +196,9 @@ pub words-order :
     × (Answers callOf (node 0 Privileged false)
     ((Access Two 2 767, 2) ∷ (Access Two 1 767, 3) ∷ (Access Two 1 4294967295, 3) ∷ (Access Two 1 766, 0) ∷ (Access Two 0 511, 0) ∷ (Access Two 1 255, 0) ∷ []))
     × (Answers callOf (node 9 User false) ((Access Two 2 767, 1) ∷ []))
+    × (Answers callOf (withRegisters (live 1 3 User false) (node 0 User false)) ((Access Two 0 254, 0) ∷ (Access Two 0 255, 9) ∷ (Access One 0 256, 9) ∷ []))
 unfolding callOf checksOf accessChecks isSound
-words-order = (refl, refl, refl, refl)
+words-order = (refl, refl, refl, refl, refl)
 
 -- a machine, a call that is made on it, and the machine after it
 abbrev Effects : List (Machine × Call × Machine) → Type 0

@@ -1,5 +1,5 @@
 mod Pages
-mod Touched
+pub mod Touched
 pub mod Sound
 pub mod Answers
 pub mod LentParts

@@ -18,6 +18,7 @@ use Rattle.machine.specs.Listed.{isIn, listed, soundNumbers}
 use Rattle.machine.specs.declared.record.Machine.{Machine}
 use Rattle.machine.specs.declared.record.Program.{Program}
 use Rattle.machine.specs.declared.record.Page.{Page}
+use Rattle.machine.specs.declared.record.Domain.{Domain}
 use Rattle.machine.specs.declared.record.LastViolation.{LastViolation}
 use Rattle.machine.specs.declared.record.LastViolation.the-variants.{Absent}
 use Rattle.machine.specs.declared.record.Report.the-variants.{Nothing, Denied}
@@ -298,6 +299,7 @@ loose depth programs current mode pending =
 pub unchecked-order :
     (Answers uncheckedOf (loose 9 2 0 User false)
     ((Access One 2 0, 2) ∷ (Access One 0 768, 3) ∷ (Access One 0 0, 0) ∷ (Access One 1 0, 9) ∷ (SetMask 0, 0) ∷ (Enter, 13) ∷ (Return, 7) ∷ (Switch 0, 7) ∷ []))
+    × (Answers uncheckedOf (loose 0 2 0 Privileged true) ((Access One 1 0, 0) ∷ (Access Two 1 255, 0) ∷ (Access Two 1 767, 3) ∷ []))
     × (Answers uncheckedOf (loose 255 2 0 Privileged false) ((Enter, 13) ∷ (Return, 0) ∷ (Switch 0, 15) ∷ []))
     × (Answers uncheckedOf (loose 0 2 2 User false) ((Enter, 0) ∷ (Return, 7) ∷ (Switch 3, 7) ∷ []))
     × (Answers uncheckedOf (loose 0 2 2 Privileged false) ((Return, 14) ∷ (Switch 3, 10) ∷ (Switch 0, 10) ∷ []))
@@ -308,7 +310,7 @@ pub unchecked-order :
     × (Answers uncheckedOf (loose 0 2 0 User true)
     ((Access One 1 0, 8) ∷ (Access One 0 0, 8) ∷ both 0 0 3 8 ((SetMask 0, 8) ∷ (StoreMode 2, 17) ∷ (StoreMode 1, 7) ∷ [])))
 unfolding uncheckedOf checksOf accessChecks changeChecks prevailing domainBit trailingZeros
-unchecked-order = (refl, refl, refl, refl, refl, refl, refl, refl)
+unchecked-order = (refl, refl, refl, refl, refl, refl, refl, refl, refl)
 
 -- past its places, also where it has none, the stack gives user, past its entries the table gives an empty one, and nothing is stored there
 pub unchecked-outcomes :
@@ -399,24 +401,26 @@ pub after-numbers :
 unfolding after effectOf
 after-numbers = (refl, refl)
 
--- ---- the numbers that are listed, and no others
+-- ---- the numbers that are listed, whatever the arguments are, and no others
 
-pub numbers-listed :
-    (map listed
-    (Access One 0 0
-    ∷ Grant 0 (record { 0 = 0 }) (record { 0 = 0 })
-    ∷ Revoke 0 (record { 0 = 0 }) (record { 0 = 0 })
-    ∷ SetMask 0
+pub numbers-listed : (right address bits : ℕ) (page : Page) (s : Domain)
+    → (map listed
+    (Access One right address
+    ∷ Access Two right address
+    ∷ Grant right page s
+    ∷ Revoke right page s
+    ∷ SetMask bits
     ∷ Enter
     ∷ Return
-    ∷ Switch 0
-    ∷ StoreField 0 (record { 0 = 0 }) 0
-    ∷ StoreContext 0
-    ∷ StoreMask 0
-    ∷ StoreMode 0
+    ∷ Switch bits
+    ∷ StoreField right page bits
+    ∷ StoreContext bits
+    ∷ StoreMask bits
+    ∷ StoreMode bits
     ∷ AskViolation
     ∷ [])
     ≡ (0 ∷ 1 ∷ 2 ∷ 3 ∷ 8 ∷ 9 ∷ [])
+    ∷ (0 ∷ 1 ∷ 2 ∷ 3 ∷ 8 ∷ 9 ∷ [])
     ∷ (0 ∷ 1 ∷ 2 ∷ 4 ∷ 5 ∷ 6 ∷ 8 ∷ 11 ∷ 12 ∷ [])
     ∷ (0 ∷ 1 ∷ 2 ∷ 4 ∷ 5 ∷ 6 ∷ 8 ∷ 11 ∷ 12 ∷ [])
     ∷ (0 ∷ 1 ∷ 6 ∷ 8 ∷ [])
@@ -431,4 +435,4 @@ pub numbers-listed :
     ∷ [])
     × (soundNumbers ≡ 0 ∷ 2 ∷ 3 ∷ 4 ∷ 5 ∷ 6 ∷ 7 ∷ 8 ∷ 9 ∷ 11 ∷ 12 ∷ 13 ∷ 14 ∷ 15 ∷ 16 ∷ 17 ∷ [])
     × (map (λ (n : ℕ). isIn n (3 ∷ 5 ∷ [])) (0 ∷ 3 ∷ 4 ∷ 5 ∷ 6 ∷ []) ≡ false ∷ true ∷ false ∷ true ∷ false ∷ [])
-numbers-listed = (refl, refl, refl)
+numbers-listed right address bits page s = (refl, refl, refl)

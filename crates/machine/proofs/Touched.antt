@@ -21,7 +21,7 @@ bytes Two = 2
 abbrev pub Touches : Width → ℕ → ℕ → Type 0
 Touches width address byte = (address ≤ byte) × (byte < address + bytes width)
 
--- what is the same of each is the same of some
+-- two conditions that agree on each number agree on whether one of a list meets them
 pub any-same : {p q : ℕ → Bool} → ((x : ℕ) → p x ≡ q x) → (l : List ℕ) → any p l ≡ any q l
 any-same same [] = refl
 any-same same (x ∷ rest) = rw (same x, any-same same rest)

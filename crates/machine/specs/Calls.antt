@@ -64,8 +64,8 @@ isOutsideMemory m byte = leb (memorySize m) byte
 abbrev pub isDenied : Machine → ℕ → ℕ → Bool
 isDenied m right byte = eqb (bitAnd (fieldOf m right (pageOf m byte)) (localContext (m .registers))) 0
 
--- RULES 3.2: the own conditions of an access to these bytes, of which any one is enough for 3 or for 9. 8 and 9 are for user mode: in privileged
--- mode every access within memory is allowed (3.3).
+-- RULES 3.2: the own conditions of an access to these bytes: one byte outside memory is enough for 3, and one whose page denies for 9. 8 and 9 are for user
+-- mode: in privileged mode every access within memory is allowed (3.3).
 unfoldable pub accessChecks : Machine → ℕ → List ℕ → List Check
 accessChecks m right bytes =
     (not (isRight right) ⇒ 2)

@@ -41,6 +41,12 @@ pub kinds-spelled : (right a b more : ℕ)
 unfolding callOfKind
 kinds-spelled right a b more = (refl, refl)
 
+-- any six bytes are one record, and the calls of what follows them come after it
+pub records-spelled : (kind right a a′ b b′ : ℕ) (rest : List ℕ)
+    → callsOf (kind ∷ right ∷ a ∷ a′ ∷ b ∷ b′ ∷ rest) ≡ callOfKind kind right (256 * a + a′) (256 * b + b′) ∷ callsOf rest
+unfolding callsOf
+records-spelled kind right a a′ b b′ rest = refl
+
 -- the answers of any input and what is sent of them into any room
 pub run-spelled : (input : List ℕ) (room : ℕ) (m : Machine) (call : Call) (rest : List Decoded)
     → let start = loadOf (take (wordAt input 0) (drop 2 input)) in
