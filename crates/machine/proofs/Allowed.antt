@@ -1,5 +1,5 @@
--- When an access of either width is allowed: exactly where none of its conditions is met. The page of each byte that it touches is said by its bounds,
--- not by a division.
+-- When an access of either width is allowed: exactly where none of its conditions is met, the page of each byte that it touches said by its bounds and not by
+-- a division. And when it answers 3 and 9: from what is known of some byte that it touches.
 use Prim.Native.Nat.{ℕ, suc, _+_, _-_, _*_, _/_, _^_, _≤_, _<_}
 use mathlib.Core.Path.{_≡_, refl}
 use mathlib.Core.Bool.{Bool, true, false, not}
@@ -19,7 +19,7 @@ use Rattle.machine.specs.declared.record.Machine.{Machine}
 use Rattle.machine.specs.declared.record.Width.{Width}
 use Rattle.machine.specs.declared.record.Call.the-variants.{Access}
 use Rattle.machine.proofs.Answers.{accepted, metAt, unmet}
-use Rattle.machine.proofs.Touched.{Touches, bytes, last-touched, met, none-meets, none-met, some-meets}
+use Rattle.machine.proofs.Touched.{Touches, bytes, last-touched, none-meets, none-met, one-meets, some-meets}
 
 -- a byte on a page that is there
 pub record Paged (m : Machine) (byte : ℕ) : Type 0 where
@@ -119,7 +119,7 @@ module _ (m : Machine) (width : Width) (right address : ℕ) where
         where
           split : (b : Bool) → any (isOutsideMemory m) (touched width address) ≡ b → memorySize m < address + bytes width
           split true e =
-              let past = met (isOutsideMemory m) width address e in
+              let past = one-meets (isOutsideMemory m) width address e in
               let out = leb-true (memorySize m) (past .byte) (past .meets) in
               let ends = past .touches .1 in
               omega (arith, out, ends)

@@ -24,7 +24,7 @@ use Rattle.machine.specs.declared.record.Call.the-variants.{Access, Gran
 use Rattle.machine.proofs.Sound.{Sound, sound-facts, moved-sound}
 use Rattle.machine.proofs.Answers.{first-avoids, not-nine, after-cases, after-both}
 use Rattle.machine.proofs.Told.{told, shape, first-within}
-use Rattle.machine.proofs.Touched.{Touches, first-touched, met, none-meets}
+use Rattle.machine.proofs.Touched.{Touches, first-touched, none-meets, one-meets}
 
 own-number : (m : Machine) (call : Call) → isIn (first (checksOf m call)) (0 ∷ ownNumbers call) ≡ true
 own-number m call = first-within (0 ∷ ownNumbers call) (checksOf m call) (told m call .numbers .own)
@@ -114,7 +114,7 @@ violation-denies m (Access width right address) nine =
     let bytes = touched width address in
     let passed =
     reaches-nine (not (isSound m)) (not (isRight right)) (any (isOutsideMemory m) bytes) (inPrivilegedMode m) (m .registers .pending) (any (isDenied m right) bytes) nine in
-    let page = met (isDenied m right) width address (passed .3) in
+    let page = one-meets (isDenied m right) width address (passed .3) in
     record {
       width = width;
       right = right;

@@ -1,5 +1,5 @@
--- The bytes that an access touches are those from its address on, as many as its width has: what one of them meets, and what none of them does.
--- A width has its bytes one by one, so that each law is shown by them.
+-- The bytes that an access touches are those from its address on, as many as its width has: whether one of them meets a condition, and what follows for each.
+-- Two laws look at the widths, `none-meets` and `one-meets`; the others rest on them.
 use Prim.Native.Nat.{ℕ, _+_, _-_, _≤_, _<_}
 use mathlib.Core.Path.{_≡_, refl, sym, _∙_}
 use mathlib.Core.Bool.{Bool, true, false, _||_, or-false, or-self, true≢false}
@@ -59,23 +59,18 @@ module _ (p : ℕ → Bool) where
           let next : byte ≡ address + 1 = omega (arith, t .0, t .1, other) in
           rw next (neither (p (address + 1)) false (each .1) .0)
 
-  -- and where no byte that is touched meets it, none of them does
-  pub none-met : (width : Width) (address : ℕ) → ((byte : ℕ) → Touches width address byte → p byte ≡ false) → any p (touched width address) ≡ false
-  none-met One address each = rw (each address (omega arith, omega arith))
-  none-met Two address each = rw (each address (omega arith, omega arith), each (address + 1) (omega arith, omega arith))
-
   -- where one of them meets it, here is that byte
-  pub record Met (width : Width) (address : ℕ) : Type 0 where
+  pub record OneMeets (width : Width) (address : ℕ) : Type 0 where
     pub byte : ℕ
     pub touches : Touches width address byte
     pub meets : p byte ≡ true
 
-  pub met : (width : Width) (address : ℕ) → any p (touched width address) ≡ true → Met width address
-  met One address some =
+  pub one-meets : (width : Width) (address : ℕ) → any p (touched width address) ≡ true → OneMeets width address
+  one-meets One address some =
       record { byte = address; touches = (omega arith, omega arith); meets = rw (or-false (p address)) at some }
-  met Two address some = split (p address) refl
+  one-meets Two address some = split (p address) refl
     where
-      split : (b : Bool) → p address ≡ b → Met Two address
+      split : (b : Bool) → p address ≡ b → OneMeets Two address
       split true e = record { byte = address; touches = (omega arith, omega arith); meets = e }
       split false e =
           record {
@@ -84,7 +79,17 @@ module _ (p : ℕ → Bool) where
             meets = rw (e, or-false (p (address + 1))) at some;
           }
 
-  -- and where a byte that is touched meets it, one of them does
+  -- where no byte that is touched meets it, none of them does
+  pub none-met : (width : Width) (address : ℕ) → ((byte : ℕ) → Touches width address byte → p byte ≡ false) → any p (touched width address) ≡ false
+  none-met width address each = split (any p (touched width address)) refl
+    where
+      split : (b : Bool) → any p (touched width address) ≡ b → b ≡ false
+      split true e =
+          let found = one-meets width address e in
+          absurd (true≢false (sym (found .meets) ∙ each (found .byte) (found .touches)))
+      split false e = refl
+
+  -- where a byte that is touched meets it, one of them does
   pub some-meets : (width : Width) (address byte : ℕ) → Touches width address byte → p byte ≡ true → any p (touched width address) ≡ true
   some-meets width address byte t meets = split (any p (touched width address)) refl
     where

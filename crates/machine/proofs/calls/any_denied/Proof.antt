@@ -14,7 +14,7 @@ returns c =
     c .denied2 .ensures ∙ sym (any-alike _ _ (telling .enum-told2 .given .1) (rw same))
 
 returns-2 : tie.Need-returns-2
-returns-2 c = c .denied .ensures ∙ sym (any-one _ _ (c .before .enum-told .given .1))
+returns-2 c = rw (c .denied .ensures) (sym (any-one _ _ (c .before .enum-told .given .1)))
 
 returns-3 : tie.Need-returns-3
 returns-3 c =

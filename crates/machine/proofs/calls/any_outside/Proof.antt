@@ -7,7 +7,7 @@ use Rattle.machine.proofs.calls.any_outside.Statement.{statement}
 use Rattle.machine.proofs.calls.any_outside.Tie as tie
 
 returns : tie.Need-returns
-returns c = c .outside .ensures ∙ sym (any-one _ _ (c .before .enum-told .given .1))
+returns c = rw (c .outside .ensures) (sym (any-one _ _ (c .before .enum-told .given .1)))
 
 returns-2 : tie.Need-returns-2
 returns-2 c =
