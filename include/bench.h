@@ -88,6 +88,9 @@
  * added: a record that was answered by 18 becomes a call, or there is one more
  * function or constant. The library carries no number, so take the two from
  * the same checkout.
+ *
+ * From 2.0 on an access of two bytes is presented by kind 13. Kind 1 asks for
+ * one byte alone; before, the first byte's page decided for both.
  */
 #define BENCH_VERSION_MAJOR 2
 #define BENCH_VERSION_MINOR 0

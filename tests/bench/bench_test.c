@@ -261,11 +261,11 @@ static const struct text_case text_cases[] = {
      SAMPLE "0D 02 00 00 02 FF  0D FF FF FF FF FF" READ_TWO("02 00")
      "0D 02 00 00 00 00" READ_TWO("02 FF") READ_TWO("00 00"),
      "0 2 2 9 2 3 8"},
-    {"two bytes after a grant of the second page",
-     SAMPLE TURN_OF("01") WRITE_TWO("01 FE") TURN_OF("00")
-     "02 01 00 01 00 03" TURN_OF("01") WRITE_TWO("01 FE")
-     WRITE_TWO("00 FF"),
-     "0 0 0 0 9 0 0 0 0 0 0 0 0 9"},
+    {"two bytes across an edge, after a grant of the first page, of both",
+     SAMPLE MASK("00 07") "02 01 00 01 00 03" TURN_OF("01")
+     WRITE_TWO("01 FF") TURN_OF("00") "02 01 00 02 00 03" TURN_OF("01")
+     WRITE_TWO("01 FF"),
+     "0 0 0 0 0 0 9 0 0 0 0 0 0 0 0"},
 
     /* The stack of saved modes. */
     {"nine entries and nine returns",
@@ -519,16 +519,15 @@ static bool page_gives(unsigned page, unsigned right, unsigned shift)
     return ((page + right + shift) & 2) != 0;
 }
 
-/* What an access of so many bytes gets, in user mode with the flag clear, on
-   whole memory of a page size. */
-static uint8_t edge_answer(unsigned long first, unsigned width, unsigned right,
+/* What an access of so many bytes gets in user mode with the flag clear. */
+static uint8_t edge_answer(uint64_t first, unsigned width, unsigned right,
                            unsigned exponent, unsigned pages, unsigned shift)
 {
-    for (unsigned long byte = first; byte < first + width; byte++) {
+    for (uint64_t byte = first; byte < first + width; byte++) {
         if (byte >> exponent >= pages)
             return BENCH_ANSWER_BAD_ADDRESS;
     }
-    for (unsigned long byte = first; byte < first + width; byte++) {
+    for (uint64_t byte = first; byte < first + width; byte++) {
         if (!page_gives((unsigned)(byte >> exponent), right, shift))
             return BENCH_ANSWER_VIOLATION;
     }
@@ -536,7 +535,7 @@ static uint8_t edge_answer(unsigned long first, unsigned width, unsigned right,
 }
 
 static size_t put_call(uint8_t *at, unsigned kind, unsigned right,
-                       unsigned long address)
+                       uint64_t address)
 {
     at[0] = (uint8_t)kind;
     at[1] = (uint8_t)right;
@@ -580,9 +579,9 @@ static void add_page_edges(unsigned exponent, unsigned right, unsigned shift)
 
     size_t count = 0;
     answers[count++] = BENCH_ANSWER_DONE;
-    for (unsigned long edge = 1; edge <= pages; edge++) {
-        for (unsigned long back = 3; back > 0; back--) {
-            unsigned long address = (edge << exponent) + 1 - back;
+    for (uint64_t edge = 1; edge <= pages; edge++) {
+        for (unsigned back = 3; back > 0; back--) {
+            uint64_t address = (edge << exponent) + 1 - back;
             for (unsigned width = 1; width <= 2; width++) {
                 unsigned kind = width == 1 ? BENCH_KIND_ACCESS
                                            : BENCH_KIND_ACCESS_TWO;
@@ -600,8 +599,8 @@ static void add_page_edges(unsigned exponent, unsigned right, unsigned shift)
             }
         }
     }
-    static const unsigned long far[] = {0xFFFE, 0xFFFF, 0x10000, 0xFFFFFFFE,
-                                        0xFFFFFFFF};
+    static const uint64_t far[] = {0xFFFE, 0xFFFF, 0x10000, 0xFFFFFFFE,
+                                   0xFFFFFFFF};
     length += put_call(input + length, BENCH_KIND_ENTRY, 0, 0);
     answers[count++] = BENCH_ANSWER_DONE;
     for (size_t i = 0; i < sizeof far / sizeof far[0]; i++) {

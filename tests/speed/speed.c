@@ -142,6 +142,13 @@ static void put_access(struct input *in)
     put_call(in, ACCESS, right, 0, below(MEMORY));
 }
 
+/* The last byte of memory has none after it. */
+static void put_access_two(struct input *in)
+{
+    unsigned right = below(2);
+    put_call(in, ACCESS_TWO, right, 0, below(MEMORY - 1));
+}
+
 static void put_command(struct input *in, unsigned kind)
 {
     unsigned right = below(2);
@@ -158,31 +165,25 @@ static void put_field_store(struct input *in)
 }
 
 /* User accesses; the last quarter, after one entry, privileged ones. */
+static void build_accesses(struct input *in, void (*put)(struct input *in))
+{
+    put_image(in, false);
+    while (in->length < sizeof in->bytes * 3 / 4)
+        put(in);
+    put_call(in, ENTRY, 0, 0, 0);
+    while (has_room(in))
+        put(in);
+}
+
 static void build_access(struct input *in)
 {
-    put_image(in, false);
-    while (in->length < sizeof in->bytes * 3 / 4)
-        put_access(in);
-    put_call(in, ENTRY, 0, 0, 0);
-    while (has_room(in))
-        put_access(in);
+    build_accesses(in, put_access);
 }
 
-/* The same with accesses of two bytes, about one in 256 across an edge. */
-static void put_access_two(struct input *in)
+/* About one in 256 is across an edge. */
+static void build_access_two(struct input *in)
 {
-    unsigned right = below(2);
-    put_call(in, ACCESS_TWO, right, 0, below(MEMORY - 1));
-}
-
-static void build_word(struct input *in)
-{
-    put_image(in, false);
-    while (in->length < sizeof in->bytes * 3 / 4)
-        put_access_two(in);
-    put_call(in, ENTRY, 0, 0, 0);
-    while (has_room(in))
-        put_access_two(in);
+    build_accesses(in, put_access_two);
 }
 
 /* In turn, so that the time is the calls' own and not of wrong guesses. */
@@ -236,7 +237,7 @@ static void build_store(struct input *in)
 /* A call with nearly any arguments; most are refused. */
 static void put_stray(struct input *in)
 {
-    unsigned kind = below(ASK_VIOLATION + 1);
+    unsigned kind = below(ACCESS_TWO + 1);
     unsigned right = below(3);
     unsigned a = below(PAGES + 4);
     unsigned b = below(20);
@@ -259,6 +260,10 @@ static void put_user_call(struct input *in)
         break;
     case 4:
         put_call(in, MASK_COMMAND, 0, 0, below(0x1000) << 4 | 0x000F);
+        break;
+    case 5:
+    case 6:
+        put_access_two(in);
         break;
     default:
         put_access(in);
@@ -318,7 +323,7 @@ struct workload {
 
 static const struct workload workloads[] = {
     {"access", build_access, true},
-    {"word", build_word, true},
+    {"access2", build_access_two, true},
     {"grant", build_grant, true},
     {"mask", build_mask, true},
     {"entry", build_entry, true},

@@ -11,7 +11,7 @@ use Rattle.machine.specs.declared.record.Call.the-variants.{Access, Grant, Revo
 -- RULES 4.1: what a turn's list is made of, with any arguments, the accesses of one byte and of two; the kernel's stores and its question for the last
 -- violation are in no turn
 pub data Command : Type 0 where
-  access : Width → (right address : ℕ) → Command
+  access : (width : Width) (right address : ℕ) → Command
   grant : (right : ℕ) (page : Page) (s : Domain) → Command
   revoke : (right : ℕ) (page : Page) (s : Domain) → Command
   setMask : (bits : ℕ) → Command

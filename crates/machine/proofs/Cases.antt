@@ -172,7 +172,7 @@ small-pages = (refl, refl)
 -- accesses of two bytes, from the last byte of each page on and within pages. The page of each byte is asked by itself: READ of pages 0 and 1 is given
 -- through two domains, and where one of two pages denies, what the other gives does not help. Neither byte may be outside memory, in privileged mode too. The
 -- order is that of one byte. Last, a mask that goes beyond the global context gives nothing.
-pub words-order :
+pub two-bytes-order :
     (Answers callOf (node 0 User false)
     ((Access Two 2 767, 2)
     ∷ (Access Two 1 767, 3)
@@ -198,7 +198,7 @@ pub words-order :
     × (Answers callOf (node 9 User false) ((Access Two 2 767, 1) ∷ []))
     × (Answers callOf (withRegisters (live 1 3 User false) (node 0 User false)) ((Access Two 0 254, 0) ∷ (Access Two 0 255, 9) ∷ (Access One 0 256, 9) ∷ []))
 unfolding callOf checksOf accessChecks isSound
-words-order = (refl, refl, refl, refl, refl)
+two-bytes-order = (refl, refl, refl, refl, refl)
 
 -- a machine, a call that is made on it, and the machine after it
 abbrev Effects : List (Machine × Call × Machine) → Type 0
@@ -225,7 +225,7 @@ unfolding callOf checksOf accessChecks changeChecks effectOf after isSound preva
 user-effects = refl
 
 -- an access of two bytes: where it is denied, by whichever page, the first byte's address is kept
-pub words-effects :
+pub two-bytes-effects :
     let before = user figure (live 7 3 User false) in
     let after = user figure (live 7 3 User true) in
     Effects
@@ -236,7 +236,7 @@ pub words-effects :
     ∷ (before, Access Two 0 600, withLast (denied 0 0 600) after)
     ∷ [])
 unfolding callOf checksOf accessChecks effectOf after isSound
-words-effects = refl
+two-bytes-effects = refl
 
 -- entry saves the mode and return restores it, at any depth
 pub stack-effects :

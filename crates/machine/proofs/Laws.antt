@@ -10,7 +10,7 @@ use lib.Bits.{bitAnd}
 use lib.Dec.{eqb}
 use lib.ListN.{getD}
 use Rattle.rules.specs.Registers.{localContext, withPending}
-use Rattle.rules.specs.Refusals.{Check, _⇒_, first, pick}
+use Rattle.rules.specs.Refusals.{_⇒_, first, pick}
 use Rattle.machine.specs.Machine.{isRight, isSound, memorySize, fieldOf, violationFits, noProgram, withRegisters, withLast}
 use Rattle.machine.specs.Calls.{callOf, answerBy, silent, checksOf, accessChecks, changeChecks, effectOf, entered, returned, switched, deniedBy, handedOut, inPrivilegedMode, inUserMode, isDenied, isOutsideMemory, numberOf, touched, any, after, violated}
 use Rattle.machine.specs.Listed.{isIn, listed, ownNumbers, soundNumbers}

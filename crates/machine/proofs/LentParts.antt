@@ -14,8 +14,8 @@ use Rattle.machine.specs.declared.record.Domain.{Domain}
 use Rattle.machine.specs.declared.record.Report.the-variants.{Nothing}
 use Rattle.machine.specs.declared.record.Report.{Report}
 use Rattle.machine.specs.declared.record.Answered.{Answered}
-use Rattle.machine.specs.declared.record.Call.{Call}
 use Rattle.machine.specs.declared.record.Width.{Width}
+use Rattle.machine.specs.declared.record.Call.{Call}
 use Rattle.machine.specs.declared.record.Call.the-variants.{Access, StoreField}
 use Rattle.machine.proofs.Answers.{avoids, after-cases, after-both, own-not-nine, unreported, change-avoids, change-effect, change-reports}
 

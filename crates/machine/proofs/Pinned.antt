@@ -74,7 +74,7 @@ bytes-touched = (refl, refl, refl)
 
 -- accesses of two bytes about the last page: it gives READ and WRITE, the page before it neither. And without the check for 1, where memory goes on past
 -- the greatest address: the second byte is on page 1 there, not on page 0 again.
-pub last-page-words :
+pub last-page-two-bytes :
     let far : ℕ → Machine = λ second. whole 2 32 (1 ∷ 0 ∷ second ∷ 0 ∷ []) (live 3 3 User false) 0 [] 1 0 [] in
     (Answers callOf (wide (last 0x0300 0x8200) (live 0x0300 0xFFFF User false))
     ((Access Two 0 65534, 0)
@@ -87,7 +87,7 @@ pub last-page-words :
     × (Answers uncheckedOf (far 2) ((Access Two 0 0xFFFFFFFF, 0) ∷ (Access Two 1 0xFFFFFFFF, 9) ∷ []))
     × (Answers uncheckedOf (far 4) ((Access Two 0 0xFFFFFFFF, 9) ∷ (Access Two 0 0xFFFFFFFE, 0) ∷ []))
 unfolding callOf uncheckedOf checksOf accessChecks isSound
-last-page-words = (refl, refl, refl)
+last-page-two-bytes = (refl, refl, refl)
 
 pub last-page-order :
     (Answers callOf (wide (last 0x0300 0x8200) (live 0x0300 0xFFFF User false))
@@ -299,18 +299,17 @@ loose depth programs current mode pending =
 pub unchecked-order :
     (Answers uncheckedOf (loose 9 2 0 User false)
     ((Access One 2 0, 2) ∷ (Access One 0 768, 3) ∷ (Access One 0 0, 0) ∷ (Access One 1 0, 9) ∷ (SetMask 0, 0) ∷ (Enter, 13) ∷ (Return, 7) ∷ (Switch 0, 7) ∷ []))
-    × (Answers uncheckedOf (loose 0 2 0 Privileged true) ((Access One 1 0, 0) ∷ (Access Two 1 255, 0) ∷ (Access Two 1 767, 3) ∷ []))
     × (Answers uncheckedOf (loose 255 2 0 Privileged false) ((Enter, 13) ∷ (Return, 0) ∷ (Switch 0, 15) ∷ []))
     × (Answers uncheckedOf (loose 0 2 2 User false) ((Enter, 0) ∷ (Return, 7) ∷ (Switch 3, 7) ∷ []))
     × (Answers uncheckedOf (loose 0 2 2 Privileged false) ((Return, 14) ∷ (Switch 3, 10) ∷ (Switch 0, 10) ∷ []))
     × (Answers uncheckedOf (loose 1 2 1 Privileged false) ((Switch 2, 16) ∷ (Switch 1, 0) ∷ []))
     × (Answers uncheckedOf (loose 0 2 1 Privileged false) ((Switch 2, 15) ∷ []))
     × (Answers uncheckedOf (loose 0 2 0 Privileged true)
-    ((Access One 1 0, 0) ∷ (Access One 1 768, 3) ∷ both 0 0 3 6 (both 0 0 16 5 ((SetMask 0, 6) ∷ (Enter, 0) ∷ []))))
+    ((Access One 1 0, 0) ∷ (Access One 1 768, 3) ∷ (Access Two 1 255, 0) ∷ (Access Two 1 767, 3) ∷ both 0 0 3 6 (both 0 0 16 5 ((SetMask 0, 6) ∷ (Enter, 0) ∷ []))))
     × (Answers uncheckedOf (loose 0 2 0 User true)
     ((Access One 1 0, 8) ∷ (Access One 0 0, 8) ∷ both 0 0 3 8 ((SetMask 0, 8) ∷ (StoreMode 2, 17) ∷ (StoreMode 1, 7) ∷ [])))
 unfolding uncheckedOf checksOf accessChecks changeChecks prevailing domainBit trailingZeros
-unchecked-order = (refl, refl, refl, refl, refl, refl, refl, refl, refl)
+unchecked-order = (refl, refl, refl, refl, refl, refl, refl, refl)
 
 -- past its places, also where it has none, the stack gives user, past its entries the table gives an empty one, and nothing is stored there
 pub unchecked-outcomes :

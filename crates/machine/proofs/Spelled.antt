@@ -8,7 +8,7 @@ use lib.Bits.{bitAnd}
 use lib.Dec.{leb, ltb, eqb}
 use lib.ListN.{getD, set, replicate}
 use Rattle.rules.specs.Domains.{prevailing, isOutside, isNotLower, withBit, withoutBit}
-use Rattle.rules.specs.Refusals.{Check, _⇒_, first, pick}
+use Rattle.rules.specs.Refusals.{_⇒_, first, pick}
 use Rattle.rules.specs.declared.registers.Mode.the-variants.{User, Privileged}
 use Rattle.rules.specs.declared.registers.Registers.{Registers}
 use Rattle.rules.specs.Registers.{isPrivileged}

@@ -19,8 +19,8 @@ use Rattle.machine.specs.Listed.{isIn, ownNumbers, soundNumbers}
 use Rattle.machine.specs.declared.record.Machine.{Machine}
 use Rattle.machine.specs.declared.record.Page.{Page}
 use Rattle.machine.specs.declared.record.Domain.{Domain}
-use Rattle.machine.specs.declared.record.Call.{Call}
 use Rattle.machine.specs.declared.record.Width.{Width}
+use Rattle.machine.specs.declared.record.Call.{Call}
 use Rattle.machine.specs.declared.record.Call.the-variants.{Access, Grant, Revoke, SetMask, Enter, Return, Switch, StoreField, StoreContext, StoreMask, StoreMode, AskViolation}
 use Rattle.machine.proofs.Sound.{and-both, sound-facts, moved-sound}
 use Rattle.machine.proofs.Entitled.{entitled}

@@ -1,5 +1,5 @@
 -- The bytes that an access touches are those from its address on, as many as its width has: whether one of them meets a condition, and what follows for each.
--- Two laws look at the widths, `none-meets` and `one-meets`; the others rest on them.
+-- `none-meets` and `one-meets` look at each width's bytes one by one; `none-met` and `some-meets` rest on them.
 use Prim.Native.Nat.{ℕ, _+_, _-_, _≤_, _<_}
 use mathlib.Core.Path.{_≡_, refl, sym, _∙_}
 use mathlib.Core.Bool.{Bool, true, false, _||_, or-false, or-self, true≢false}

@@ -97,7 +97,8 @@ fn outside(pages: u16, exponent: u8, address: u32, ahead: u8) -> bool
     (pages as u64) <= page_of(address, ahead, exponent)
 }
 
-// Some byte that an access touches is outside memory (RULES 3.2, for 3).
+// Some byte that an access touches is outside memory (RULES 3.2, for 3). Of two the last is asked first, which is cheaper in the run's loop
+// (docs/PERFORMANCE.md).
 fn any_outside(pages: u16, exponent: u8, width: Width, address: u32) -> bool
     ensures { λ r. ⌜ r ≡ any (λ byte. leb (pages * 2 ^ exponent) byte) (touched width address) ⌝ }
 {
@@ -107,7 +108,7 @@ fn any_outside(pages: u16, exponent: u8, width: Width, address: u32) -> bool
     }
 }
 
-// The page of the byte so far ahead of an address does not give the right through a local context.
+// The page of the byte so far ahead of an address does not give the right through a local context. The page may have 33 bits, one more than `place` takes.
 fn denied(fields: &[u16], exponent: u8, local: u16, right: u8, address: u32, ahead: u8) -> bool
     ensures { λ r. ⌜ r ≡ eqb (bitAnd (getD (now (fields .entry)) (placeOf right ((address + ahead) / 2 ^ exponent)) 0) local) 0 ⌝ }
 {

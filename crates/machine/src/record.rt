@@ -189,8 +189,8 @@ pub fn memory_size(pages: u16, exponent: u8) -> u32
     0
 }
 
-// How far a byte's address is shifted for its page. 63 places leave nothing of it, as more would. This is no part of the address, so that a loop over
-// calls works it out once.
+// How far a byte's address is shifted for its page (RULES 1.9). 63 places leave nothing of it, as more would. It does not depend on the address, so that a
+// loop over calls works it out once.
 fn shift_of(exponent: u8) -> u8
     ensures { λ r. ⌜ r ≡ pick (leb exponent 63) exponent 63 ⌝ }
 {

@@ -109,7 +109,7 @@ sample-run = refl
 
 -- accesses of two bytes on the sample: within page 0, from page 0 to page 1, of which each gives READ through a domain of its own, and from page 1 to
 -- page 2, which does not give it; then the flag is set. In privileged mode memory ends all the same, and past the greatest address nothing wraps.
-pub words-run :
+pub two-bytes-run :
     answersOf
     (0x00 ∷ 0x2C ∷ (sampleBytes
     ++ (0x0D ∷ 0x00 ∷ 0x00 ∷ 0x00 ∷ 0x00 ∷ 0xFE
@@ -126,7 +126,7 @@ pub words-run :
     ∷ [])))
     ≡ 0 ∷ 0 ∷ 0 ∷ 0 ∷ 2 ∷ 3 ∷ 9 ∷ 8 ∷ 0 ∷ 0 ∷ 3 ∷ 3 ∷ []
 unfolding sampleBytes callAnswers answersFrom callsOf callOfKind stepBy loadOf loadChecks lengthTests kindTests shapeEntryTests shapeTests bodyTests describe machineOf callOf checksOf accessChecks effectOf entered after isSound
-words-run = refl
+two-bytes-run = refl
 
 -- an image of 318 bytes, whose length stands in both bytes: program 0 is privileged
 pub long-run :

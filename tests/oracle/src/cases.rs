@@ -11,7 +11,7 @@ mod lengths;
 mod loader;
 mod questions;
 mod sample;
-mod words;
+mod two_bytes;
 
 use crate::histories;
 use crate::random::Random;
@@ -69,7 +69,7 @@ pub fn all() -> Vec<Case> {
     commands::add(&mut cases);
     kernel::add(&mut cases);
     questions::add(&mut cases);
-    words::add(&mut cases);
+    two_bytes::add(&mut cases);
     loader::add(&mut cases);
     lengths::add(&mut cases);
     for seed in 1..=12 {

@@ -299,9 +299,10 @@ impl History<'_> {
         }
         if kind == 13 && self.random.chance(75) {
             // Across an edge. Where no edge has what is wanted, one is taken whose pages differ, if there is one.
-            let (both, first, second, neither) = ((true, true), (true, false), (false, true), (false, false));
-            let wanted = self.random.pick(&[both, both, both, first, second, neither]);
-            let tried = [wanted, first, second, both, neither];
+            let (both_give, first_gives, second_gives, neither_gives) =
+                ((true, true), (true, false), (false, true), (false, false));
+            let wanted = self.random.pick(&[both_give, both_give, both_give, first_gives, second_gives, neither_gives]);
+            let tried = [wanted, first_gives, second_gives, both_give, neither_gives];
             if let Some((right, edge)) = tried.into_iter().find_map(|wanted| self.search_edge(wanted)) {
                 return access_two(right, edge * self.machine.page_size() as u32 - 1);
             }

@@ -10,7 +10,7 @@ mod questions;
 mod rest;
 mod shapes;
 mod switches;
-mod words;
+mod two_bytes;
 
 use crate::cases::{sample, Step};
 use crate::random::Random;
@@ -214,7 +214,7 @@ pub fn all() -> Vec<Case> {
     shapes::add(&mut writes);
     inputs::add(&mut writes);
     questions::add(&mut writes);
-    words::add(&mut writes);
+    two_bytes::add(&mut writes);
     for seed in 1..=8 {
         let bytes = many::case(&mut Random::new(seed));
         writes.list.push(Case { purpose: format!("a random case, seed {seed}"), bytes, due: None });

@@ -3,7 +3,7 @@ use mathlib.Core.Path.{ap, _∙_}
 use mathlib.Core.Logic.{⊎-elim}
 use borrow.Author.Tests.{eq-eqb, ne-eqb}
 use Rattle.machine.specs.Machine.{withFields}
-use Rattle.machine.specs.Calls.{accessChecks, keeping, checksOf}
+use Rattle.machine.specs.Calls.{keeping, checksOf}
 use Rattle.machine.specs.declared.record.Violations.{Violations}
 use Rattle.machine.proofs.Answers.{access-answered}
 use borrow.Author.Needs.{needs}
@@ -11,7 +11,7 @@ use Rattle.machine.proofs.record.Machine.access_lent.Statement.{stateme
 use Rattle.machine.proofs.record.Machine.access_lent.Tie as tie
 
 returns : tie.Need-returns
-unfolding checksOf accessChecks
+unfolding checksOf
 returns c =
     let start : tie.Start = (search) in
     let numbering : tie.After-access-at = (search) in
