@@ -109,14 +109,15 @@
  * How much stack a call of bench_run should find free, in bytes. It is more
  * than one and a half times the most that was measured:
  *
- * The function itself takes 1,824: the return address, six registers and
- * 1,768 bytes of locals, as its disassembly shows (objdump -d). It calls only
+ * The function itself takes 1,840: the return address, six registers and
+ * 1,784 bytes of locals, as its disassembly shows (objdump -d). It calls only
  * memcpy and memset, which puts 8 more there and what these two take. On a
- * stack filled with a pattern a call took 1,832, with glibc 2.36. Where a
+ * stack filled with a pattern a call took 1,848, with glibc 2.36. Where a
  * program is linked so that memcpy and memset are looked up when they are
- * first called, the first call took 3,368 to 3,432 on a processor with vector
- * registers of 32 bytes and 4,968 on one with 64: the system's loader then
- * works on the same stack and saves these registers there.
+ * first called, the first call took 5,032 on a processor with vector registers
+ * of 64 bytes: the system's loader then works on the same stack and saves
+ * these registers there. On one with 32 it took 3,368 to 3,432 in an earlier
+ * version, whose locals were 16 bytes fewer.
  * tests/bench/stack.c measures both calls again.
  */
 #define BENCH_STACK_ENOUGH 8192

@@ -164,6 +164,14 @@ static void put_field_store(struct input *in)
              1u << prevailing(page) | (below(0x1000) << 4));
 }
 
+/* The last byte of a page and the first of the next. */
+static void put_access_across(struct input *in)
+{
+    unsigned right = below(2);
+    unsigned page = 1 + below(PAGES - 1);
+    put_call(in, ACCESS_TWO, right, 0, (page << EXPONENT) - 1);
+}
+
 /* User accesses; the last quarter, after one entry, privileged ones. */
 static void build_accesses(struct input *in, void (*put)(struct input *in))
 {
@@ -262,8 +270,10 @@ static void put_user_call(struct input *in)
         put_call(in, MASK_COMMAND, 0, 0, below(0x1000) << 4 | 0x000F);
         break;
     case 5:
-    case 6:
         put_access_two(in);
+        break;
+    case 6:
+        put_access_across(in);
         break;
     default:
         put_access(in);
