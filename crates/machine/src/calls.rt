@@ -97,8 +97,8 @@ fn outside(pages: u16, exponent: u8, address: u32, ahead: u8) -> bool
     (pages as u64) <= page_of(address, ahead, exponent)
 }
 
-// Some byte that an access touches is outside memory (RULES 3.2, for 3). Of two the last is asked first, which is cheaper in the run's loop
-// (docs/PERFORMANCE.md).
+// Some byte that an access touches is outside memory (RULES 3.2, for 3). Of two the last is asked first: the other way round the run's entries came out
+// dearer (docs/PERFORMANCE.md).
 fn any_outside(pages: u16, exponent: u8, width: Width, address: u32) -> bool
     ensures { λ r. ⌜ r ≡ any (λ byte. leb (pages * 2 ^ exponent) byte) (touched width address) ⌝ }
 {
