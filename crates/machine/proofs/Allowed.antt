@@ -5,7 +5,7 @@ use mathlib.Core.Path.{_≡_, refl}
 use mathlib.Core.Bool.{Bool, true, false, not}
 use mathlib.Core.List.{List, [], _∷_}
 use mathlib.Core.Logic.{_⊎_, _↔_, inl, inr, ⊎-elim}
-use borrow.Author.Tests.{leb-true, leb-false, le-leb, lt-leb, not-false}
+use borrow.Author.Tests.{eqb-false, leb-true, leb-false, le-leb, lt-leb, not-false}
 use lib.Bits.{bitAnd}
 use lib.Dec.{leb, eqb}
 use lib.Pow.{pow-pos}
@@ -18,7 +18,7 @@ use Rattle.machine.specs.Calls.{accessChecks, checksOf, inPrivilegedMode
 use Rattle.machine.specs.declared.record.Machine.{Machine}
 use Rattle.machine.specs.declared.record.Width.{Width}
 use Rattle.machine.specs.declared.record.Call.the-variants.{Access}
-use Rattle.machine.proofs.Answers.{accepted, metAt, unmet}
+use Rattle.machine.proofs.Answers.{accepted, first-avoids, metAt, unmet}
 use Rattle.machine.proofs.Touched.{Touches, bytes, last-touched, none-meets, none-met, one-meets, some-meets}
 
 -- a byte on a page that is there
@@ -105,14 +105,13 @@ module _ (m : Machine) (width : Width) (right address : ℕ) where
   unfolding checksOf accessChecks
   outside-exactly sound known = (forth, back)
     where
-      inner : Bool → Bool → Bool → ℕ
-      inner privileged pending denied = first (pick privileged [] ((pending ⇒ 8) ∷ (denied ⇒ 9) ∷ []))
+      -- the conditions after 3
+      rest : Bool → List Check
+      rest privileged = pick privileged [] ((m .registers .pending ⇒ 8) ∷ (any (isDenied m right) (touched width address) ⇒ 9) ∷ [])
 
-      not-three : (privileged pending denied : Bool) → inner privileged pending denied ≡ 3 → ⊥
-      not-three true pending denied three = absurd (omega arith)
-      not-three false true denied three = absurd (omega arith)
-      not-three false false true three = absurd (omega arith)
-      not-three false false false three = absurd (omega arith)
+      not-three : (privileged : Bool) → first (rest privileged) ≡ 3 → ⊥
+      not-three true = eqb-false (first (rest true)) 3 (first-avoids 3 (rest true) refl)
+      not-three false = eqb-false (first (rest false)) 3 (first-avoids 3 (rest false) refl)
 
       forth : numberOf m (Access width right address) ≡ 3 → memorySize m < address + bytes width
       forth three = split (any (isOutsideMemory m) (touched width address)) refl
@@ -124,9 +123,7 @@ module _ (m : Machine) (width : Width) (right address : ℕ) where
               let ends = past .touches .1 in
               omega (arith, out, ends)
           split false e =
-              absurd
-              (not-three (inPrivilegedMode m) (m .registers .pending) (any (isDenied m right) (touched width address))
-              (rw (sound, le-leb right 1 known, e) at three))
+              absurd (not-three (inPrivilegedMode m) (rw (sound, le-leb right 1 known, e) at three))
 
       back : memorySize m < address + bytes width → numberOf m (Access width right address) ≡ 3
       back past = rw (sound, le-leb right 1 known, last-outside)

@@ -116,8 +116,8 @@ fn denied(fields: &[u16], exponent: u8, local: u16, right: u8, address: u32, ahe
     read_field(fields, 2 * page + right as usize) & local == 0
 }
 
-// The page of some byte that an access touches does not give the right (RULES 3.2, for 9). Each page is asked by itself: fields are never joined. Two bytes on one page, as
-// most are, ask it once.
+// The page of some byte that an access touches does not give the right (RULES 3.2, for 9). Each page is asked by itself: fields are never joined. Two
+// bytes on one page, as most are, ask it once.
 fn any_denied(
     fields: &[u16],
     exponent: u8,

@@ -1,24 +1,21 @@
 -- `machine::calls::denied` meets its contract: a page is no greater than its byte, so that the place of its field has room.
 use borrow.Author.Needs.{needs}
-use Prim.Native.Nat.{_+_, _^_}
+use Prim.Native.Nat.{_+_, _^_, _≤_}
 use native.Mathlib.Nat.{div-le-self}
 use native.Mathlib.Omega.{arith}
 use Rattle.machine.proofs.calls.denied.Statement.{statement}
 use Rattle.machine.proofs.calls.denied.Tie as tie
 
-mul-read-field : tie.Need-mul-read-field
-mul-read-field c =
+page-most : (c : tie.After-page-of) → c .page-of .result ≤ c .before .before .args .address + c .before .before .args .ahead
+page-most c =
     let a = c .before .before .args in
-    let page = div-le-self (a .address + a .ahead) (2 ^ a .exponent) in
-    let found = c .page-of .ensures in
-    omega (arith, page, found)
+    rw (c .page-of .ensures) (div-le-self (a .address + a .ahead) (2 ^ a .exponent))
+
+mul-read-field : tie.Need-mul-read-field
+mul-read-field c = let most = page-most c in omega (arith, most)
 
 add-read-field : tie.Need-add-read-field
-add-read-field c =
-    let a = c .before .before .args in
-    let page = div-le-self (a .address + a .ahead) (2 ^ a .exponent) in
-    let found = c .page-of .ensures in
-    omega (arith, page, found)
+add-read-field c = let most = page-most c in omega (arith, most)
 
 returns : tie.Need-returns
 returns c = rw (c .read-field .ensures, c .before .page-of .ensures)
