@@ -4,11 +4,11 @@ use Prim.Native.Nat.{ℕ, zero, suc, _+_, _-_, _*_, _/_, _%_, _^_, _<_}
 use mathlib.Core.Path.{_≡_, refl, sym, ap, _∙_}
 use mathlib.Core.Bool.{Bool, true, false, not, true≢false}
 use borrow.Author.Tests.{eqb-true, eqb-false, eq-eqb, ne-eqb}
-use lib.Bits.{bitAnd, and-high}
+use lib.Bits.{bitAnd, and-mask, and-high}
 use lib.Count.{trailingZeros, under}
 use lib.Dec.{eqb}
 use lib.Pow.{pow-pos, pow-add}
-use native.Mathlib.Nat.{pow-suc, pow-succ', div-div-eq-div-mul, div-one, one-mul, zero-mul}
+use native.Mathlib.Nat.{pow-suc, pow-succ', div-div-eq-div-mul, div-one, one-mul, zero-mul, suc-mul}
 use native.Mathlib.Omega.{arith}
 use Rattle.rules.specs.Domains.{domainBit, holds, prevailing}
 use Rattle.rules.specs.Refusals.{pick}
@@ -49,6 +49,16 @@ held-digit field s known = rw (domain-bit s known) (ap (bitAnd field) alone ∙ 
   where
     alone : 2 ^ s ≡ 2 ^ (1 + s) - 2 ^ s
     alone = omega (arith, pow-add 2 1 s)
+
+-- so it holds it exactly where that digit, moved down to the lowest place, is not 0
+pub held-moved : (field s : ℕ) → s < 16 → not (eqb (bitAnd (field / 2 ^ s) 1) 0) ≡ holds field s
+held-moved field s known = ap not (split (field / 2 ^ s % 2) (and-mask (field / 2 ^ s) 1) (held-digit field s known))
+  where
+    split : {moved held : ℕ} (digit : ℕ) → moved ≡ digit → held ≡ digit * 2 ^ s → eqb moved 0 ≡ eqb held 0
+    split zero m h = rw (m, h, zero-mul (2 ^ s))
+    split {moved} {held} (suc d) m h =
+        ne-eqb moved 0 (λ (none : moved ≡ 0). omega arith)
+        ∙ sym (ne-eqb held 0 (λ (none : held ≡ 0). omega (arith, suc-mul d (2 ^ s), pow-pos s)))
 
 -- RULES 1.8: where a domain prevails, the field holds it and none of lower number
 pub prevailing-lowest : (field d : ℕ) → field < 65536 → prevailing field ≡ At d

@@ -1,21 +1,30 @@
--- `rules::domains::domain_bit` meets its contract: a shift of 1 by less than 16 places loses no bit.
-use lib.Pow.{shl-exact}
-use native.Mathlib.Nat.{one-mul}
+-- `rules::domains::domain_bit` meets its contract: the number in case s is 2 to the power s, computed for each; what no case names is past
+-- the last domain.
+use Prim.Native.Nat.{ℕ, zero, suc, _≤_, zero-le}
+use mathlib.Core.Path.{_≡_, sym}
 use native.Mathlib.Omega.{arith}
 use Rattle.rules.specs.Domains.{domainBit}
-use Rattle.rules.proofs.Decided.{decided}
-use borrow.Author.Tests.{lt-ltb}
+use Rattle.rules.proofs.Laws.{no-domain-bit}
 use Rattle.rules.proofs.domains.domain_bit.Statement.{statement}
 use Rattle.rules.proofs.domains.domain_bit.Tie as tie
 
-returns : tie.Need-returns
-unfolding domainBit
-returns c =
-    rw (lt-ltb _ _ (c .if1 .taken), shl-exact {a = 1} 1 (c .before .args .s) 16 (omega arith) (omega arith), one-mul)
+-- s is none of the first n numbers
+abbrev NoneBelow : ℕ → ℕ → Type 0
+NoneBelow zero s = Unit
+NoneBelow (suc n) s = NoneBelow n s × (s ≡ n → ⊥)
 
-returns-2 : tie.Need-returns-2
-unfolding domainBit
-returns-2 c = search decided
+past : (n s : ℕ) → NoneBelow n s → n ≤ s
+past zero s none = zero-le
+past (suc n) s none = let least = past n s (none .0) in omega (arith, least, none .1)
+
+returns-17 : tie.Need-returns-17
+returns-17 c = sym (no-domain-bit _ (past 16 _ (c .match .rest)))
 
 pub domain-bit-spec : {M : Type 1} → statement M
-domain-bit-spec = tie.close (tie.spec (λ c. search decided) returns returns-2)
+unfolding domainBit
+domain-bit-spec =
+    tie.close
+    (tie.spec (λ c. rw (c .match .keys1)) (λ c. rw (c .match .keys2)) (λ c. rw (c .match .keys3)) (λ c. rw (c .match .keys4))
+    (λ c. rw (c .match .keys5)) (λ c. rw (c .match .keys6)) (λ c. rw (c .match .keys7)) (λ c. rw (c .match .keys8))
+    (λ c. rw (c .match .keys9)) (λ c. rw (c .match .keys10)) (λ c. rw (c .match .keys11)) (λ c. rw (c .match .keys12))
+    (λ c. rw (c .match .keys13)) (λ c. rw (c .match .keys14)) (λ c. rw (c .match .keys15)) (λ c. rw (c .match .keys16)) returns-17)
