@@ -6,8 +6,11 @@ use Rattle.rules.proofs.Lowest.{held-moved}
 use Rattle.rules.proofs.domains.holds_domain.Statement.{statement}
 use Rattle.rules.proofs.domains.holds_domain.Tie as tie
 
+returns : tie.Need-returns
+returns c = held-moved _ _ (c .if1 .taken)
+
 returns-2 : tie.Need-returns-2
 returns-2 c = let a = c .before .args in rw (no-domain-bit (a .s) (c .if1 .left), and-zero-r (a .set))
 
 pub holds-domain-spec : {M : Type 1} → statement M
-holds-domain-spec = tie.close (tie.spec (λ c. search needs) (λ c. held-moved _ _ (c .if1 .taken)) returns-2)
+holds-domain-spec = tie.close (tie.spec (λ c. search needs) returns returns-2)
