@@ -6,9 +6,10 @@ use mathlib.Core.Bool.{Bool, true, false}
 use mathlib.Core.List.{[], _∷_, map}
 use native.Mathlib.Nat.{le-refl}
 use borrow.Author.Tests.{lt-ltb, le-ltb, le-leb, ne-eqb}
+use lib.Bits.{bitAnd, and-zero-r, or-zero-r}
 use lib.Count.{trailingZeros}
 use Rattle.rules.specs.Registers.{isPrivileged, modeWhere, localContext, maskedOf}
-use Rattle.rules.specs.Domains.{domainBit, prevailing, isOutside, isNotLower, withBit, withoutBit}
+use Rattle.rules.specs.Domains.{domainBit, holds, prevailing, isOutside, isNotLower, withBit, withoutBit}
 use Rattle.rules.specs.declared.registers.Mode.{Mode}
 use Rattle.rules.specs.declared.registers.Mode.the-variants.{User, Privileged}
 use Rattle.rules.specs.declared.registers.Registers.{Registers}
@@ -22,6 +23,13 @@ domain-bit s h = rw (lt-ltb s 16 h)
 pub no-domain-bit : (s : ℕ) → 16 ≤ s → domainBit s ≡ 0
 unfolding domainBit
 no-domain-bit s h = rw (le-ltb s 16 h)
+
+-- so nothing holds such a number, and to set or clear its bit changes none of the sixteen
+pub no-domain-held : (set s : ℕ) → 16 ≤ s → holds set s ≡ false
+no-domain-held set s h = rw (no-domain-bit s h, and-zero-r set)
+
+pub no-domain-changed : (field s : ℕ) → 16 ≤ s → (withBit field s ≡ field) × (withoutBit field s ≡ bitAnd field 65535)
+no-domain-changed field s h = rw (no-domain-bit s h) (or-zero-r field, refl)
 
 -- RULES 1.8: no domain prevails in an empty field, so that no local context has it
 pub empty-field-refused : (local : ℕ) → isOutside (prevailing 0) local ≡ true

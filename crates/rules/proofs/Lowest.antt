@@ -1,5 +1,5 @@
--- The prevailing domain is the lowest-numbered one that a field holds. By induction on the binary digits: those below the lowest set one
--- are 0, and it is 1.
+-- A field holds a domain where the binary digit of its number is set, and the prevailing domain is the lowest-numbered one that it holds. By
+-- induction on the digits: those below the lowest set one are 0, and it is 1.
 use Prim.Native.Nat.{ℕ, zero, suc, _+_, _-_, _*_, _/_, _%_, _^_, _<_}
 use mathlib.Core.Path.{_≡_, refl, sym, ap, _∙_}
 use mathlib.Core.Bool.{Bool, true, false, not, true≢false}
@@ -50,15 +50,13 @@ held-digit field s known = rw (domain-bit s known) (ap (bitAnd field) alone ∙ 
     alone : 2 ^ s ≡ 2 ^ (1 + s) - 2 ^ s
     alone = omega (arith, pow-add 2 1 s)
 
--- so it holds it exactly where that digit, moved down to the lowest place, is not 0
+-- so a field holds domain s exactly where that digit, moved down to the lowest place, is not 0
 pub held-moved : (field s : ℕ) → s < 16 → not (eqb (bitAnd (field / 2 ^ s) 1) 0) ≡ holds field s
-held-moved field s known = ap not (split (field / 2 ^ s % 2) (and-mask (field / 2 ^ s) 1) (held-digit field s known))
+held-moved field s known = rw (and-mask (field / 2 ^ s) 1, held-digit field s known) (ap not (scaled (field / 2 ^ s % 2)))
   where
-    split : {moved held : ℕ} (digit : ℕ) → moved ≡ digit → held ≡ digit * 2 ^ s → eqb moved 0 ≡ eqb held 0
-    split zero m h = rw (m, h, zero-mul (2 ^ s))
-    split {moved} {held} (suc d) m h =
-        ne-eqb moved 0 (λ (none : moved ≡ 0). omega arith)
-        ∙ sym (ne-eqb held 0 (λ (none : held ≡ 0). omega (arith, suc-mul d (2 ^ s), pow-pos s)))
+    scaled : (digit : ℕ) → eqb digit 0 ≡ eqb (digit * 2 ^ s) 0
+    scaled zero = rw (zero-mul (2 ^ s))
+    scaled (suc d) = rw (suc-mul d (2 ^ s), ne-eqb (suc d) 0 (omega arith), ne-eqb (d * 2 ^ s + 2 ^ s) 0 (omega (arith, pow-pos s)))
 
 -- RULES 1.8: where a domain prevails, the field holds it and none of lower number
 pub prevailing-lowest : (field d : ℕ) → field < 65536 → prevailing field ≡ At d

@@ -9,7 +9,7 @@ pub enum Prevailing {
 }
 
 // The number with bit s set alone, 0 where there is no domain s (RULES 1.6). One case a domain, to be read beside figure 2 of Lopriore's
-// paper; bit 0 is the last digit. Case s is 2 to the power s (`domain-bit`, proofs/Laws.antt).
+// paper; bit 0 is the last digit. By the contract and `domain-bit` (proofs/Laws.antt) case s is 2 to the power s, for each s from 0 to 15.
 pub fn domain_bit(s: u16) -> u16
     ensures { λ r. ⌜ r ≡ domainBit s ⌝ }
 {
@@ -34,8 +34,8 @@ pub fn domain_bit(s: u16) -> u16
     }
 }
 
-// Domain s is in a field or a context: bit s, moved down to bit 0, is set. By `domain_bit` a grant would have a second list of cases, and be
-// too long to be compiled into the run's loop (docs/PERFORMANCE.md).
+// Domain s is in a field or a context: bit s, moved down to bit 0, is set. No set holds a number above 15. To ask `domain_bit` here once more
+// would make a grant too long to be compiled into the run's loop (docs/PERFORMANCE.md).
 pub fn holds_domain(set: u16, s: u16) -> bool
     ensures { λ r. ⌜ r ≡ holds set s ⌝ }
 {

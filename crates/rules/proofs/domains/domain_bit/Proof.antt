@@ -13,9 +13,10 @@ abbrev NoneBelow : ℕ → ℕ → Type 0
 NoneBelow zero s = Unit
 NoneBelow (suc n) s = NoneBelow n s × (s ≡ n → ⊥)
 
+-- one number after the other, since omega takes at most six that are left out at once
 past : (n s : ℕ) → NoneBelow n s → n ≤ s
 past zero s none = zero-le
-past (suc n) s none = let least = past n s (none .0) in omega (arith, least, none .1)
+past (suc n) s none = omega (arith, past n s (none .0), none .1)
 
 returns-17 : tie.Need-returns-17
 returns-17 c = sym (no-domain-bit _ (past 16 _ (c .match .rest)))
