@@ -35,12 +35,13 @@ pub fn domain_bit(s: u16) -> u16
 }
 
 // Domain s is in a field or a context: bit s, moved down to bit 0, is set. No set holds a number above 15. To ask `domain_bit` here once more
-// would make a grant too long to be compiled into the run's loop (docs/PERFORMANCE.md).
+// would make a grant too long to be compiled into the run's loop; a move of 16 bits costs it three instructions more than one of 64
+// (docs/PERFORMANCE.md).
 pub fn holds_domain(set: u16, s: u16) -> bool
     ensures { λ r. ⌜ r ≡ holds set s ⌝ }
 {
     if s < 16 {
-        return (set >> s) & 1 != 0;
+        return ((set as u64) >> s) & 1 != 0;
     }
     false
 }
