@@ -9,7 +9,7 @@ pub enum Prevailing {
 }
 
 // The number with bit s set alone, 0 where there is no domain s (RULES 1.6). One case a domain, to be read beside figure 2 of Lopriore's
-// paper; bit 0 is the last digit. By the contract and `domain-bit` (proofs/Laws.antt) each of the sixteen, case s, is 2 to the power s.
+// paper; bit 0 is the last digit. By the contract and `domain-bit` (proofs/Laws.antt) case s is 2 to the power s.
 pub fn domain_bit(s: u16) -> u16
     ensures { λ r. ⌜ r ≡ domainBit s ⌝ }
 {
