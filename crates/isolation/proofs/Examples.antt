@@ -4,7 +4,6 @@ use Prim.Native.Nat.{ℕ, zero, suc, _≤_, _<_}
 use mathlib.Core.Path.{_≡_, refl, sym, ap, _∙_}
 use mathlib.Core.Bool.{true, false}
 use mathlib.Core.List.{List, [], _∷_, _++_, map}
-use lib.Bits.{and-zero-r}
 use lib.Count.{trailingZeros}
 use lib.ListN.{getD, replicate}
 use native.Mathlib.Omega.{arith}
@@ -12,7 +11,7 @@ use Rattle.rules.specs.Domains.{domainBit, holds, prevailing}
 use Rattle.rules.specs.declared.domains.Prevailing.the-variants.{At}
 use Rattle.rules.specs.declared.registers.Mode.{Mode}
 use Rattle.rules.specs.declared.registers.Mode.the-variants.{User, Privileged}
-use Rattle.rules.proofs.Laws.{no-domain-bit}
+use Rattle.rules.proofs.Laws.{no-domain-held}
 use Rattle.machine.specs.Machine.{fieldOf, isSound, noProgram}
 use Rattle.machine.specs.Calls.{asPage, asDomain, accessChecks, after, callOf, checksOf, changeChecks, effectOf, entered, returned, switched}
 use Rattle.machine.specs.declared.record.Machine.{Machine}
@@ -174,9 +173,6 @@ sharing =
     whole 1 8 ((0x0003 ∷ 0x8000 ∷ []) ++ replicate 254 0) (live 0x8002 0xFFFF User false) 0 (replicate 8 false) 2 0
     (stored 0x8002 0xFFFF User ∷ stored 0x8001 0xFFFF User ∷ replicate 6 noProgram)
 
-none-lower : (context lower : ℕ) → 16 ≤ lower → holds context lower ≡ false
-none-lower context lower past = rw (no-domain-bit lower past, and-zero-r context)
-
 -- program 0 prevails by domain 15, on WRITE alone, and there is no lower level; its domain 1 prevails nowhere
 pub apart-sharing : Apart sharing 1
 unfolding Apart prevailing trailingZeros domainBit
@@ -188,7 +184,7 @@ apart-sharing zero zero zero domain lower below differs known counted prevails h
     absurd (prevails-not 0x8002 0 domain refl prevails held)
 apart-sharing zero (suc zero) zero domain lower below differs known counted prevails held less =
     let last : 15 ≡ domain = cc in
-    none-lower 0x8001 lower (omega arith)
+    no-domain-held 0x8001 lower (omega arith)
 
 -- ---- a program alone in the table and stored in privileged mode: its accesses are allowed, its commands answer 6
 abbrev lone : Machine

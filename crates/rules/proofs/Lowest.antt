@@ -3,12 +3,12 @@
 use Prim.Native.Nat.{ℕ, zero, suc, _+_, _-_, _*_, _/_, _%_, _^_, _<_}
 use mathlib.Core.Path.{_≡_, refl, sym, ap, _∙_}
 use mathlib.Core.Bool.{Bool, true, false, not, true≢false}
-use borrow.Author.Tests.{eqb-true, eqb-false, eq-eqb, ne-eqb}
-use lib.Bits.{bitAnd, and-mask, and-high}
+use borrow.Author.Tests.{eqb-true, eqb-false, ne-eqb}
+use lib.Bits.{bitAnd, and-high}
 use lib.Count.{trailingZeros, under}
 use lib.Dec.{eqb}
 use lib.Pow.{pow-pos, pow-add}
-use native.Mathlib.Nat.{pow-suc, pow-succ', div-div-eq-div-mul, div-one, one-mul, zero-mul, suc-mul}
+use native.Mathlib.Nat.{pow-suc, pow-succ', div-div-eq-div-mul, div-one, zero-mul, suc-mul}
 use native.Mathlib.Omega.{arith}
 use Rattle.rules.specs.Domains.{domainBit, holds, prevailing}
 use Rattle.rules.specs.Refusals.{pick}
@@ -44,17 +44,16 @@ below-unset (suc k) n s below = go (n % 2) refl s below (below-unset k (n / 2))
     go (suc r) e t h rest = absurd (omega arith)
 
 -- a field holds a domain exactly where the digit of its number is set
-held-digit : (field s : ℕ) → s < 16 → bitAnd field (domainBit s) ≡ (field / 2 ^ s % 2) * 2 ^ s
-held-digit field s known = rw (domain-bit s known) (ap (bitAnd field) alone ∙ and-high field 1 s)
+pub held-digit : (field s : ℕ) → s < 16 → holds field s ≡ not (eqb (field / 2 ^ s % 2) 0)
+held-digit field s known = rw part (ap not (scaled (field / 2 ^ s % 2)))
   where
     alone : 2 ^ s ≡ 2 ^ (1 + s) - 2 ^ s
     alone = omega (arith, pow-add 2 1 s)
 
--- so a field holds domain s exactly where that digit, moved down to the lowest place, is not 0
-pub held-moved : (field s : ℕ) → s < 16 → not (eqb (bitAnd (field / 2 ^ s) 1) 0) ≡ holds field s
-held-moved field s known = rw (and-mask (field / 2 ^ s) 1, held-digit field s known) (ap not (scaled (field / 2 ^ s % 2)))
-  where
-    scaled : (digit : ℕ) → eqb digit 0 ≡ eqb (digit * 2 ^ s) 0
+    part : bitAnd field (domainBit s) ≡ (field / 2 ^ s % 2) * 2 ^ s
+    part = rw (domain-bit s known) (ap (bitAnd field) alone ∙ and-high field 1 s)
+
+    scaled : (digit : ℕ) → eqb (digit * 2 ^ s) 0 ≡ eqb digit 0
     scaled zero = rw (zero-mul (2 ^ s))
     scaled (suc d) = rw (suc-mul d (2 ^ s), ne-eqb (suc d) 0 (omega arith), ne-eqb (d * 2 ^ s + 2 ^ s) 0 (omega (arith, pow-pos s)))
 
@@ -70,11 +69,10 @@ prevailing-lowest field d small at = split (eqb field 0) refl at
     split false e f =
         let place : trailingZeros 16 field ≡ d = cc in
         let some = eqb-false field 0 e in
-        let lowest : (d < 16) × (field / 2 ^ d % 2 ≡ 1) = rw (← place) (lowest-set 16 field (omega arith) small) in
-        let held : bitAnd field (domainBit d) ≡ 2 ^ d = held-digit field d (lowest .0) ∙ rw (lowest .1) (one-mul (2 ^ d)) in (
+        let lowest : (d < 16) × (field / 2 ^ d % 2 ≡ 1) = rw (← place) (lowest-set 16 field (omega arith) small) in (
           lowest .0,
-          ap not (ne-eqb _ 0 (λ (none : bitAnd field (domainBit d) ≡ 0). omega (arith, none, held, pow-pos d))),
-          λ s below. ap not (eq-eqb _ 0 (held-digit field s (omega (arith, lowest .0)) ∙ rw (below-unset 16 field s (omega arith)) (zero-mul (2 ^ s)))),
+          rw (held-digit field d (lowest .0), lowest .1),
+          λ s below. rw (held-digit field s (omega (arith, lowest .0)), below-unset 16 field s (omega arith)),
         )
 
 -- RULES 1.8: where none prevails, the field is empty

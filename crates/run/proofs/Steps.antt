@@ -33,9 +33,6 @@ pub made : (fields : List ℕ) (saved : List Bool) (m : Machine) (call : Call) {
 unfolding stepBy
 made fields saved m call answer decodes names = rw (decodes, names) answer
 
-pub above : {n k : ℕ} → n ≤ k → (k ≡ n → ⊥) → n + 1 ≤ k
-above least other = omega arith
-
 -- a kind past the table's last is none of the thirteen
 pub unknown-kind : (kind right a b : ℕ) → ((kind ≡ 0 → ⊥) → 14 ≤ kind) → Unknown ≡ callOfKind kind right a b
 unfolding callOfKind

@@ -1,25 +1,15 @@
 -- `rules::domains::domain_bit` meets its contract: the number in case s is 2 to the power s, computed for each; what no case names is past
 -- the last domain.
-use Prim.Native.Nat.{ℕ, zero, suc, _≤_, zero-le}
-use mathlib.Core.Path.{_≡_, sym}
-use native.Mathlib.Omega.{arith}
+use Prim.Native.Nat.{zero-le}
+use mathlib.Core.Path.{sym}
 use Rattle.rules.specs.Domains.{domainBit}
+use Rattle.rules.proofs.Decided.{past}
 use Rattle.rules.proofs.Laws.{no-domain-bit}
 use Rattle.rules.proofs.domains.domain_bit.Statement.{statement}
 use Rattle.rules.proofs.domains.domain_bit.Tie as tie
 
--- s is none of the first n numbers
-abbrev NoneBelow : ℕ → ℕ → Type 0
-NoneBelow zero s = Unit
-NoneBelow (suc n) s = NoneBelow n s × (s ≡ n → ⊥)
-
--- one number after the other, since omega takes at most six that are left out at once
-past : (n s : ℕ) → NoneBelow n s → n ≤ s
-past zero s none = zero-le
-past (suc n) s none = omega (arith, past n s (none .0), none .1)
-
 returns-17 : tie.Need-returns-17
-returns-17 c = sym (no-domain-bit _ (past 16 _ (c .match .rest)))
+returns-17 c = sym (no-domain-bit _ (past 0 16 _ zero-le (c .match .rest)))
 
 pub domain-bit-spec : {M : Type 1} → statement M
 unfolding domainBit

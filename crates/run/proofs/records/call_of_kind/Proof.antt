@@ -1,7 +1,8 @@
 -- `run::records::call_of_kind` meets its contract: each arm is the table's entry at its kind, and past the arms the table has none.
 use Rattle.run.specs.Records.{callOfKind}
-use Prim.Native.Nat.{zero-le}
-use Rattle.run.proofs.Steps.{above, unknown-kind}
+use native.Mathlib.Omega.{arith}
+use Rattle.rules.proofs.Decided.{past}
+use Rattle.run.proofs.Steps.{unknown-kind}
 use borrow.Author.Needs.{needs}
 use Rattle.run.proofs.records.call_of_kind.Statement.{statement}
 use Rattle.run.proofs.records.call_of_kind.Tie as tie
@@ -10,13 +11,7 @@ returns-14 : tie.Need-returns-14
 unfolding callOfKind
 returns-14 c =
     let a = c .before .args in
-    let r = c .match .rest in
-    unknown-kind (a .kind) (a .right) (a .a) (a .b)
-    (λ none.
-    above (above (above (above (above (above (above (above (above (above (above (above (above (above {n = 0} zero-le none)
-    (r .0 .0 .0 .0 .0 .0 .0 .0 .0 .0 .0 .0 .1)) (r .0 .0 .0 .0 .0 .0 .0 .0 .0 .0 .0 .1)) (r .0 .0 .0 .0 .0 .0 .0 .0 .0 .0 .1)) (r .0 .0 .0 .0 .0 .0 .0 .0 .0 .1)) (r .0 .0 .0 .0 .0 .0 .0 .0 .1))
-    (r .0 .0 .0 .0 .0 .0 .0 .1)) (r .0 .0 .0 .0 .0 .0 .1)) (r .0 .0 .0 .0 .0 .1)) (r .0 .0 .0 .0 .1))
-    (r .0 .0 .0 .1)) (r .0 .0 .1)) (r .0 .1)) (r .1))
+    unknown-kind (a .kind) (a .right) (a .a) (a .b) (λ none. past 1 13 _ (omega (arith, none)) (c .match .rest))
 
 pub call-of-kind-spec : {M : Type 1} → statement M
 unfolding callOfKind
