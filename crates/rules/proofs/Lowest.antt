@@ -4,7 +4,7 @@ use Prim.Native.Nat.{ℕ, zero, suc, _+_, _-_, _*_, _/_, _%_, _^_, _<_}
 use mathlib.Core.Path.{_≡_, refl, sym, ap, _∙_}
 use mathlib.Core.Bool.{Bool, true, false, not, true≢false}
 use borrow.Author.Tests.{eqb-true, eqb-false, ne-eqb}
-use lib.Bits.{bitAnd, and-high}
+use lib.Bits.{bitAnd, and-mask, and-high}
 use lib.Count.{trailingZeros, under}
 use lib.Dec.{eqb}
 use lib.Pow.{pow-pos, pow-add}
@@ -44,7 +44,7 @@ below-unset (suc k) n s below = go (n % 2) refl s below (below-unset k (n / 2))
     go (suc r) e t h rest = absurd (omega arith)
 
 -- a field holds a domain exactly where the digit of its number is set
-pub held-digit : (field s : ℕ) → s < 16 → holds field s ≡ not (eqb (field / 2 ^ s % 2) 0)
+held-digit : (field s : ℕ) → s < 16 → holds field s ≡ not (eqb (field / 2 ^ s % 2) 0)
 held-digit field s known = rw part (ap not (scaled (field / 2 ^ s % 2)))
   where
     alone : 2 ^ s ≡ 2 ^ (1 + s) - 2 ^ s
@@ -56,6 +56,10 @@ held-digit field s known = rw part (ap not (scaled (field / 2 ^ s % 2)))
     scaled : (digit : ℕ) → eqb (digit * 2 ^ s) 0 ≡ eqb digit 0
     scaled zero = rw (zero-mul (2 ^ s))
     scaled (suc d) = rw (suc-mul d (2 ^ s), ne-eqb (suc d) 0 (omega arith), ne-eqb (d * 2 ^ s + 2 ^ s) 0 (omega (arith, pow-pos s)))
+
+-- so exactly where that digit, moved down to the lowest place, is not 0, as `holds_domain` asks
+pub held-moved : (field s : ℕ) → s < 16 → not (eqb (bitAnd (field / 2 ^ s) 1) 0) ≡ holds field s
+held-moved field s known = rw (and-mask (field / 2 ^ s) 1, held-digit field s known)
 
 -- RULES 1.8: where a domain prevails, the field holds it and none of lower number
 pub prevailing-lowest : (field d : ℕ) → field < 65536 → prevailing field ≡ At d

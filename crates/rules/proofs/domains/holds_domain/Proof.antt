@@ -1,14 +1,13 @@
 -- `rules::domains::holds_domain` meets its contract: a set holds a domain exactly where the digit of its number is set, and none past the last.
 use mathlib.Core.Path.{sym}
 use borrow.Author.Needs.{needs}
-use lib.Bits.{and-mask}
 use Rattle.rules.proofs.Laws.{no-domain-held}
-use Rattle.rules.proofs.Lowest.{held-digit}
+use Rattle.rules.proofs.Lowest.{held-moved}
 use Rattle.rules.proofs.domains.holds_domain.Statement.{statement}
 use Rattle.rules.proofs.domains.holds_domain.Tie as tie
 
 returns : tie.Need-returns
-returns c = rw (held-digit (c .before .args .set) _ (c .if1 .taken), and-mask _ 1)
+returns c = held-moved _ _ (c .if1 .taken)
 
 returns-2 : tie.Need-returns-2
 returns-2 c = sym (no-domain-held (c .before .args .set) _ (c .if1 .left))
