@@ -16,7 +16,7 @@ use Rattle.image.specs.Bytes.{Bytes, byteAt, wordAt, word, entries, bodi
 use Rattle.image.specs.Description.{Legal, entry, contents, shape, modeByte, programBytes, bytesOf}
 use Rattle.image.specs.Load.{kindAt, zeroAt, offsetAt, lengthAt, pageCount, pageExponent, programCount, fieldAt, fieldsOf, programsOf, programAt, modeAt, areModes, describe}
 use Rattle.image.proofs.Entries.{length-entries, each-entry}
-use Rattle.machine.proofs.Sound.{and-both}
+use Rattle.rules.proofs.Decided.{and-both}
 use Rattle.image.proofs.Passed.{Passed}
 
 -- bodies that are written as they stand in a string

@@ -50,6 +50,19 @@ module _ (m : Machine) (width : Width) (right address : ℕ) where
       ∷ (any (isOutsideMemory m) (touched width address) ⇒ 3)
       ∷ pick privileged [] ((m .registers .pending ⇒ 8) ∷ (any (isDenied m right) (touched width address) ⇒ 9) ∷ [])
 
+  -- none of them is met where they give 0
+  met : (b : Bool) (k : ℕ) → first (checks b) ≡ 0 → metAt k (checks b) ≡ false
+  met true k none = unmet k (checks true) refl none
+  met false k none = unmet k (checks false) refl none
+
+  -- in user mode the flag is then clear, and the page of each byte that is touched gives the right
+  pub user-allowed : numberOf m (Access width right address) ≡ 0 → inPrivilegedMode m ≡ false
+      → (m .registers .pending ≡ false) × ((byte : ℕ) → Touches width address byte → isDenied m right byte ≡ false)
+  unfolding checksOf accessChecks
+  user-allowed h user =
+      let none = rw user at (accepted m (Access width right address) h .1) in
+      (met false 2 none, none-meets (isDenied m right) width address (met false 3 none))
+
   pub allowed : numberOf m (Access width right address) ≡ 0 → Allowed m width right address
   unfolding checksOf accessChecks
   allowed h =
@@ -64,19 +77,15 @@ module _ (m : Machine) (width : Width) (right address : ℕ) where
               page-starts = div-mul-le-self byte size;
               page-ends = lt-div-mul-add (pow-pos (m .exponent));
             };
-        by-virtue = virtue (inPrivilegedMode m) refl none;
+        by-virtue = virtue (inPrivilegedMode m) refl;
       }
     where
-      met : (b : Bool) (k : ℕ) → first (checks b) ≡ 0 → metAt k (checks b) ≡ false
-      met true k none = unmet k (checks true) refl none
-      met false k none = unmet k (checks false) refl none
-
-      virtue : (b : Bool) → inPrivilegedMode m ≡ b → first (checks b) ≡ 0
+      virtue : (b : Bool) → inPrivilegedMode m ≡ b
           → (inPrivilegedMode m ≡ true)
           ⊎ ((inPrivilegedMode m ≡ false) × (m .registers .pending ≡ false)
           × ((byte : ℕ) → Touches width address byte → isDenied m right byte ≡ false))
-      virtue true e none = inl e
-      virtue false e none = inr (e, met false 2 none, none-meets (isDenied m right) width address (met false 3 none))
+      virtue true e = inl e
+      virtue false e = let u = user-allowed h e in inr (e, u .0, u .1)
 
   pub allows : isSound m ≡ true → Allowed m width right address → numberOf m (Access width right address) ≡ 0
   unfolding checksOf accessChecks

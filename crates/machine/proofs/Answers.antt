@@ -13,19 +13,20 @@ use Rattle.rules.specs.Domains.{prevailing, withBit, withoutBit}
 use Rattle.rules.specs.Refusals.{Check, _⇒_, first, pick}
 use Rattle.rules.specs.declared.registers.Registers.{Registers}
 use Rattle.machine.specs.Machine.{isSound, fieldOf, placeOf, withFields, withRegisters, withStack, withPrograms, withLast}
-use Rattle.machine.specs.Calls.{callOf, uncheckedOf, answerBy, silent, ownNumberOf, changeCall, checksOf, changeChecks, effectOf, deniedBy, reportOf, numberOf, after, violated}
+use Rattle.machine.specs.Calls.{callOf, uncheckedOf, answerBy, silent, ownNumberOf, changeCall, checksOf, changeChecks, effectOf, deniedBy, domainThrough, inPrivilegedMode, named, reportOf, numberOf, after, violated}
 use Rattle.machine.specs.declared.record.Machine.{Machine}
 use Rattle.machine.specs.declared.record.Program.{Program}
 use Rattle.machine.specs.declared.record.Page.{Page}
 use Rattle.machine.specs.declared.record.Domain.{Domain}
 use Rattle.machine.specs.declared.record.LastViolation.{LastViolation}
 use Rattle.machine.specs.declared.record.Report.{Report}
-use Rattle.machine.specs.declared.record.Report.the-variants.{Nothing}
+use Rattle.machine.specs.declared.record.Report.the-variants.{Nothing, Through}
 use Rattle.machine.specs.declared.record.Answered.{Answered}
 use Rattle.machine.specs.declared.record.Width.{Width}
 use Rattle.machine.specs.declared.record.Call.{Call}
 use Rattle.machine.specs.declared.record.Call.the-variants.{Access, Enter, Return, Switch}
-use Rattle.machine.proofs.Sound.{and-both, sound-facts}
+use Rattle.rules.proofs.Decided.{and-both}
+use Rattle.machine.proofs.Sound.{sound-facts}
 
 -- no condition of the list answers k
 abbrev pub avoids : ℕ → List Check → Bool
@@ -58,10 +59,15 @@ unmet k ((true ⇒ number) ∷ rest) h none =
 unmet zero ((false ⇒ number) ∷ rest) h none = refl
 unmet (suc k) ((false ⇒ number) ∷ rest) h none = unmet k rest (and-both (not (eqb number 0)) (refuses rest) h .1) none
 
--- a choice between two that are the same, and what is made of a choice
+-- a choice between two that are the same, by two tests, and what is made of a choice
 pick-same : {A : Type 0} (b : Bool) (x : A) → x ≡ pick b x x
 pick-same true x = refl
 pick-same false x = refl
+
+pick-both : {A : Type 0} (a b : Bool) (x y : A) → pick (a && not b) x y ≡ pick a (pick b y x) y
+pick-both true true x y = refl
+pick-both true false x y = refl
+pick-both false b x y = refl
 
 pick-under : {A B : Type 0} (f : A → B) (b : Bool) (x y : A) → f (pick b x y) ≡ pick b (f x) (f y)
 pick-under f true x y = refl
@@ -222,15 +228,18 @@ module _ (m : Machine) (right : ℕ) (page : Page) (s : Domain) where
       store-answered m call at _ read (rw (change-checks granting) (number ∙ rw (read, place))) (change-avoids granting)
       (change-effect granting ∙ rw (← place, ← read)) (change-reports granting) chosen written
 
--- an access changes nothing but the flag and the last violation, and these where it answers 9
-pub access-answered : (m : Machine) (width : Width) (right address : ℕ) {n : ℕ} {r : Registers} {last : LastViolation} → n ≡ ownNumberOf m (Access width right address)
+-- an access changes nothing but the flag and the last violation, and these where it answers 9; it names a domain where it answers 0 in user mode
+pub access-answered : (m : Machine) (width : Width) (right address : ℕ) {n : ℕ} {r : Registers} {last : LastViolation} {report : Report}
+    → n ≡ ownNumberOf m (Access width right address)
     → r ≡ pick (eqb n 9) (withPending true (m .registers)) (m .registers)
     → last ≡ pick (eqb n 9) (deniedBy m (Access width right address)) (m .violations .last)
-    → silent n (withLast last (withRegisters r m)) ≡ uncheckedOf m (Access width right address)
+    → report ≡ pick (eqb n 0 && not (inPrivilegedMode m)) (Through (domainThrough m right address)) Nothing
+    → _≡_ {A = Answered} (record { number = n; machine = withLast last (withRegisters r m); report = report }) (uncheckedOf m (Access width right address))
 unfolding uncheckedOf after effectOf
-access-answered m width right address {n} {r} {last} number changed denied =
-    rw (changed, denied, ← number, ← unreported m (Access width right address) n refl)
-    (ap (λ (end : Machine). silent n end) (kept (eqb n 9) ∙ done (eqb n 0) refl))
+access-answered m width right address {n} {r} {last} {report} number changed denied names =
+    rw (changed, denied, names, ← number, pick-both (eqb n 0) (inPrivilegedMode m) (Through (domainThrough m right address)) Nothing)
+    (ap (λ (end : Machine). record { number = n; machine = end; report = pick (eqb n 0) (named m right address) Nothing })
+    (kept (eqb n 9) ∙ done (eqb n 0) refl))
   where
     end : Bool → Machine
     end b = pick b (violated m (Access width right address)) m

@@ -11,6 +11,7 @@ pub mod Readings
 pub mod Written
 pub mod Cases
 pub mod View
+pub mod Named
 pub mod Turn
 pub mod Lengths
 pub mod MaskCommand

@@ -136,8 +136,7 @@ pub last-page-outcomes :
     let m = wide (last 0x0300 0x8200) r in
     let page : Page = record { 0 = 127 } in
     Outcomes callOf
-    ((m, Access One 0 65535, 0, m)
-    ∷ (m, Access One 1 65023, 9, withLast (denied 7 1 65023) (wide (last 0x0300 0x8200) (live 0x0300 0xFFFF User true)))
+    ((m, Access One 1 65023, 9, withLast (denied 7 1 65023) (wide (last 0x0300 0x8200) (live 0x0300 0xFFFF User true)))
     ∷ (m, Access One 1 65536, 3, m)
     ∷ (m, Grant 0 page (record { 0 = 15 }), 0, wide (last 0x8300 0x8200) r)
     ∷ (m, Grant 0 page (record { 0 = 9 }), 0, m)

@@ -8,12 +8,9 @@ use lib.Dec.{leb, ltb}
 use lib.ListN.{getD}
 use Rattle.rules.specs.Registers.{isPrivileged}
 use Rattle.rules.specs.Refusals.{pick}
+use Rattle.rules.proofs.Decided.{and-both}
 use Rattle.machine.specs.Machine.{isSound, rangesHold, memorySize, violationFits}
 use Rattle.machine.specs.declared.record.Machine.{Machine}
-
-pub and-both : (a b : Bool) → a && b ≡ true → (a ≡ true) × (b ≡ true)
-and-both true b h = (refl, h)
-and-both false b h = (h, cc)
 
 -- each of a list of tests that all hold
 joined : (a : Bool) (tests : List Bool) → foldl _&&_ a tests ≡ true → a ≡ true

@@ -5,9 +5,10 @@ use mathlib.Core.Path.{_≡_, refl}
 use mathlib.Core.Bool.{Bool, true, false, not, _&&_, _||_, or-false}
 use mathlib.Core.List.{List, [], _∷_, map}
 use lib.Bits.{bitAnd}
+use lib.Count.{trailingZeros}
 use lib.Dec.{leb, ltb, eqb}
 use lib.ListN.{getD, set, replicate}
-use Rattle.rules.specs.Domains.{prevailing, isOutside, isNotLower, withBit, withoutBit}
+use Rattle.rules.specs.Domains.{prevailing, givingDomain, isOutside, isNotLower, withBit, withoutBit}
 use Rattle.rules.specs.Refusals.{_⇒_, first, pick}
 use Rattle.rules.specs.declared.registers.Mode.the-variants.{User, Privileged}
 use Rattle.rules.specs.declared.registers.Registers.{Registers}
@@ -18,7 +19,7 @@ use Rattle.machine.specs.declared.record.Machine.{Machine}
 use Rattle.machine.specs.declared.record.Page.{Page}
 use Rattle.machine.specs.declared.record.Domain.{Domain}
 use Rattle.machine.specs.declared.record.LastViolation.the-variants.{Absent}
-use Rattle.machine.specs.declared.record.Report.the-variants.{Nothing, Denied}
+use Rattle.machine.specs.declared.record.Report.the-variants.{Nothing, Denied, Through}
 use Rattle.machine.specs.declared.record.Answered.{Answered}
 use Rattle.machine.specs.declared.record.Width.{Width}
 use Rattle.machine.specs.declared.record.Width.the-variants.{One, Two}
@@ -164,13 +165,17 @@ module _ (m : Machine) where
       × (map (deniedBy m) (AskViolation ∷ others right bits page s) ≡ replicate 11 (m .violations .last))
   denials-spelled width right address bits page s = (refl, refl)
 
-  -- what an accepted call reports: the question what is kept, every other one nothing
+  -- what an accepted call reports: an access in user mode the lowest bit that the first byte's field, the global context and the mask share, the question
+  -- what is kept, every other one nothing
   pub reports-spelled : (width : Width) (right address bits : ℕ) (page : Page) (s : Domain) (program right′ address′ : ℕ)
-      → (map (reportOf m) (Access width right address ∷ others right bits page s) ≡ replicate 11 Nothing)
+      → (reportOf m (Access width right address)
+      ≡ pick privileged Nothing (Through (record { 0 = trailingZeros 16 (bitAnd (getD (m .fields) (2 * (address / 2 ^ m .exponent) + right) 0) local) })))
+      × (map (reportOf m) (others right bits page s) ≡ replicate 10 Nothing)
       × (m .violations .last ≡ Absent → reportOf m AskViolation ≡ Nothing)
       × (m .violations .last ≡ denied program right′ address′
       → reportOf m AskViolation ≡ Denied (record { program = program; right = right′; address = address′ }))
-  reports-spelled width right address bits page s program right′ address′ = (refl, λ none. rw none, λ was. rw was)
+  unfolding givingDomain
+  reports-spelled width right address bits page s program right′ address′ = (refl, refl, λ none. rw none, λ was. rw was)
 
   -- a number, an effect and a report put together: 9 sets the flag and the last violation, any other refusal leaves the machine, and no refusal
   -- reports anything; and the call by value asks for soundness first

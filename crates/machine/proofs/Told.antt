@@ -22,7 +22,8 @@ use Rattle.machine.specs.declared.record.Domain.{Domain}
 use Rattle.machine.specs.declared.record.Width.{Width}
 use Rattle.machine.specs.declared.record.Call.{Call}
 use Rattle.machine.specs.declared.record.Call.the-variants.{Access, Grant, Revoke, SetMask, Enter, Return, Switch, StoreField, StoreContext, StoreMask, StoreMode, AskViolation}
-use Rattle.machine.proofs.Sound.{and-both, sound-facts, moved-sound}
+use Rattle.rules.proofs.Decided.{and-both}
+use Rattle.machine.proofs.Sound.{sound-facts, moved-sound}
 use Rattle.machine.proofs.Entitled.{entitled}
 use Rattle.machine.proofs.Answers.{avoids, refuses, metAt, accepted, accepted-unmet, entry-below, switch-named, switch-depth}
 

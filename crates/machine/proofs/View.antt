@@ -6,26 +6,32 @@ use mathlib.Core.Path.{_≡_, refl, sym, ap, _∙_}
 use mathlib.Core.Bool.{Bool, true, false}
 use mathlib.Core.List.{List, [], _∷_, map}
 use lib.Bits.{bitAnd}
+use lib.Dec.{eqb}
 use lib.ListN.{getD, set, List·getD-map}
 use lib.Seq.{map-set-same}
-use Rattle.rules.specs.Registers.{localContext, withMask, withPending}
-use Rattle.rules.specs.Domains.{holds, prevailing, withBit, withoutBit}
+use Rattle.rules.specs.Registers.{isPrivileged, localContext, withMask, withPending}
+use Rattle.rules.specs.Domains.{holds, prevailing, givingDomain, withBit, withoutBit}
 use Rattle.rules.specs.Refusals.{pick}
+use Rattle.rules.specs.declared.registers.Registers.{Registers}
 use Rattle.rules.specs.declared.domains.Prevailing.{Prevailing}
 use Rattle.rules.specs.declared.domains.Prevailing.the-variants.{At}
-use Rattle.rules.proofs.Bits.{and-assoc, unseen, seen-alike, local-held, unmoved}
+use Rattle.rules.proofs.Bits.{and-assoc, unseen, seen-alike, unmoved}
+use Rattle.rules.proofs.Decided.{and-both}
+use Rattle.rules.proofs.Lowest.{held-both}
 use Rattle.machine.specs.Machine.{isSound, placeOf, fieldOf, withFields, withRegisters, withLast}
-use Rattle.machine.specs.Calls.{callOf, checksOf, accessChecks, changeChecks, effectOf, deniedBy, isDenied, isOutsideMemory, numberOf, pageOf, touched}
+use Rattle.machine.specs.Calls.{callOf, checksOf, accessChecks, changeChecks, effectOf, deniedBy, isDenied, isOutsideMemory, numberOf, pageOf, reportOf, touched}
 use Rattle.machine.specs.declared.record.Machine.{Machine}
 use Rattle.machine.specs.declared.record.Page.{Page}
 use Rattle.machine.specs.declared.record.Domain.{Domain}
 use Rattle.machine.specs.declared.record.LastViolation.{LastViolation}
+use Rattle.machine.specs.declared.record.Report.{Report}
+use Rattle.machine.specs.declared.record.Report.the-variants.{Nothing}
 use Rattle.machine.specs.declared.record.Width.{Width}
 use Rattle.machine.specs.declared.record.Call.{Call}
 use Rattle.machine.specs.declared.record.Call.the-variants.{Access, Grant, Revoke, SetMask}
 use Rattle.machine.proofs.Entitled.{Entitled, entitled}
 use Rattle.machine.proofs.Touched.{any-same}
-use Rattle.machine.proofs.Answers.{avoids, after-cases, after-both, not-nine, change-avoids, change-checks, change-effect}
+use Rattle.machine.proofs.Answers.{avoids, after-cases, after-both, not-nine, change-avoids, change-checks, change-effect, change-reports}
 
 -- the calls of a turn after its entry, switch and return
 pub data IsCommand : Call → Type 0 where
@@ -162,8 +168,10 @@ command-unseen m (a-change granting right page s) context small below =
     after-cases (λ end. view context end ≡ view context m) (numberOf m call) m call
     (λ h.
     let e = entitled m granting right page s h in
-    let lacks =
-    below right (page .0) (e .domain) (s .0) (e .right-known) (e .page-counted) (e .prevails) (local-held (m .registers .context) (m .registers .mask) (e .domain) (e .held)) (e .lower) in
+    let own = m .registers .context in
+    let mask = m .registers .mask in
+    let held = and-both (holds own (e .domain)) (holds mask (e .domain)) (sym (held-both own mask (e .domain)) ∙ e .held) .0 in
+    let lacks = below right (page .0) (e .domain) (s .0) (e .right-known) (e .page-counted) (e .prevails) held (e .lower) in
     rw (change-effect m right page s granting) (change-unseen m granting right page s e context small lacks))
     (λ _. refl) refl
 command-unseen m (a-mask bits) context small below =
@@ -211,6 +219,17 @@ module _ {context : ℕ} {m n : Machine} (a : Alike context m n) where
         rw (change-checks m right page s granting, change-checks n right page s granting)
         (rw (sound, sound′, prevails, a .pages, a .registers))
     alike-number (a-mask bits) = rw (sound, sound′, a .registers)
+
+    -- and reports the same: an access names a domain that the context sees
+    pub alike-report : {call : Call} → IsCommand call → callOf m call .report ≡ callOf n call .report
+    unfolding callOf givingDomain
+    alike-report {call} command = rw (alike-number command) (ap (λ (report : Report). pick (eqb (numberOf n call) 0) report Nothing) (same command))
+      where
+        same : {call : Call} → IsCommand call → reportOf m call ≡ reportOf n call
+        same (an-access width right address) =
+            rw (a .exponent, judged (placeOf right (pageOf n address)), ap (λ (r : Registers). isPrivileged (r .mode)) (a .registers))
+        same (a-change granting right page s) = change-reports m right page s granting ∙ sym (change-reports n right page s granting)
+        same (a-mask bits) = refl
 
   effects-alike : {call : Call} → IsCommand call → SeenAlike context (effectOf m call) (effectOf n call)
   unfolding effectOf

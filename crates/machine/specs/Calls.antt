@@ -6,7 +6,7 @@ use lib.Bits.{bitAnd}
 use lib.Dec.{leb, ltb, eqb}
 use lib.ListN.{getD, set}
 use Rattle.rules.specs.Registers.{isPrivileged, modeWhere, localContext, maskChecks, withContext, withMask, withMode, withPending}
-use Rattle.rules.specs.Domains.{isDomain, withBit, withoutBit, prevailing, isOutside, isNotLower}
+use Rattle.rules.specs.Domains.{isDomain, withBit, withoutBit, prevailing, givingDomain, isOutside, isNotLower}
 use Rattle.rules.specs.Refusals.{Check, _⇒_, first, pick}
 use Rattle.rules.specs.declared.registers.Mode.{Mode}
 use Rattle.rules.specs.declared.registers.Mode.the-variants.{User, Privileged}
@@ -18,7 +18,7 @@ use Rattle.machine.specs.declared.record.Domain.{Domain}
 use Rattle.machine.specs.declared.record.LastViolation.{LastViolation}
 use Rattle.machine.specs.declared.record.LastViolation.the-variants.{Absent, Was}
 use Rattle.machine.specs.declared.record.Report.{Report}
-use Rattle.machine.specs.declared.record.Report.the-variants.{Nothing, Denied}
+use Rattle.machine.specs.declared.record.Report.the-variants.{Nothing, Denied, Through}
 use Rattle.machine.specs.declared.record.Answered.{Answered}
 use Rattle.machine.specs.declared.record.Width.{Width}
 use Rattle.machine.specs.declared.record.Width.the-variants.{One, Two}
@@ -208,9 +208,19 @@ abbrev pub handedOut : LastViolation → Report
 handedOut Absent = Nothing
 handedOut (Was violation) = Denied violation
 
--- RULES 2.13: what a call reports that nothing refuses. The question hands out the last violation, and no other call reports anything.
+-- RULES 1.17, 3.3: the domain through which the page of an address gives the right to the local context
+abbrev pub domainThrough : Machine → ℕ → ℕ → Domain
+domainThrough m right address = asDomain (givingDomain (fieldOf m right (pageOf m address)) (localContext (m .registers)))
+
+-- RULES 3.3: what an allowed access names: in user mode the domain that its first byte's page gives the right through. In privileged mode no domain is
+-- asked, and none is named.
+abbrev pub named : Machine → ℕ → ℕ → Report
+named m right address = pick (inPrivilegedMode m) Nothing (Through (domainThrough m right address))
+
+-- RULES 2.13: what a call reports that nothing refuses. An access names a domain, the question hands out the last violation, and no other call reports
+-- anything.
 abbrev pub reportOf : Machine → Call → Report
-reportOf m (Access width right address) = Nothing
+reportOf m (Access width right address) = named m right address
 reportOf m (Grant right page s) = Nothing
 reportOf m (Revoke right page s) = Nothing
 reportOf m (SetMask bits) = Nothing

@@ -30,6 +30,7 @@ use rules::decisions::mode_number;
 use rules::decisions::register_number;
 use rules::decisions::return_number;
 use rules::decisions::switch_number;
+use rules::domains::giving_domain;
 use rules::domains::prevailing_of;
 use rules::domains::with_bit;
 use rules::domains::without_bit;
@@ -40,11 +41,12 @@ ghost use Prim.Native.Nat.{_+_, _-_, _*_, _^_, _/_};
 ghost use lib.Bits.{bitAnd};
 ghost use lib.Dec.{leb, eqb};
 ghost use lib.ListN.{getD};
-ghost use Rattle.rules.specs.Domains.{prevailing, withBit, withoutBit};
+ghost use Rattle.rules.specs.Domains.{prevailing, givingDomain, withBit, withoutBit};
 ghost use Rattle.rules.specs.Refusals.{pick, first};
 ghost use Rattle.machine.specs.Machine.{placeOf, withFields, withStack};
 ghost use Rattle.machine.specs.declared.record.Call.{Call};
-ghost use Rattle.machine.specs.Calls.{callOf, uncheckedOf, answerBy, ownNumberOf, keeping, changeCall, touched, any, accessChecks, changeChecks, modeOf, silent};
+ghost use Rattle.machine.specs.declared.record.Report.the-variants.{Nothing, Through};
+ghost use Rattle.machine.specs.Calls.{asDomain, callOf, uncheckedOf, answerBy, ownNumberOf, keeping, changeCall, touched, any, accessChecks, changeChecks, modeOf, silent};
 
 // The new value where a call was accepted, else the old one.
 fn chosen(done: bool, new: u16, old: u16) -> u16
@@ -108,12 +110,19 @@ fn any_outside(pages: u16, exponent: u8, width: Width, address: u32) -> bool
     }
 }
 
-// The page of the byte so far ahead of an address does not give the right through a local context. The page may have 33 bits, one more than `place` takes.
+// The field of a right to the page of the byte so far ahead of an address. The page may have 33 bits, one more than `place` takes.
+fn field_at(fields: &[u16], exponent: u8, right: u8, address: u32, ahead: u8) -> u16
+    ensures { λ r. ⌜ r ≡ getD (now (fields .entry)) (placeOf right ((address + ahead) / 2 ^ exponent)) 0 ⌝ }
+{
+    let page = page_of(address, ahead, exponent) as usize;
+    read_field(fields, 2 * page + right as usize)
+}
+
+// The page of the byte so far ahead of an address does not give the right through a local context.
 fn denied(fields: &[u16], exponent: u8, local: u16, right: u8, address: u32, ahead: u8) -> bool
     ensures { λ r. ⌜ r ≡ eqb (bitAnd (getD (now (fields .entry)) (placeOf right ((address + ahead) / 2 ^ exponent)) 0) local) 0 ⌝ }
 {
-    let page = page_of(address, ahead, exponent) as usize;
-    read_field(fields, 2 * page + right as usize) & local == 0
+    field_at(fields, exponent, right, address, ahead) & local == 0
 }
 
 // The page of some byte that an access touches does not give the right (RULES 3.2, for 9). Each page is asked by itself: fields are never joined. Two
@@ -138,6 +147,24 @@ fn any_denied(
                 | denied(fields, exponent, local, right, address, 1)
         }
     }
+}
+
+// What an access reports: where it names a domain, the one through which the page of its first byte gives the right (RULES 3.3).
+fn named(
+    names: bool,
+    fields: &[u16],
+    exponent: u8,
+    local: u16,
+    right: u8,
+    address: u32,
+) -> Report
+    ensures { λ r. ⌜ r ≡ pick names (Through (asDomain (givingDomain (getD (now (fields .entry)) (placeOf right (address / 2 ^ exponent)) 0) local))) Nothing ⌝ }
+{
+    if !names {
+        return Report::Nothing;
+    }
+    let field = field_at(fields, exponent, right, address, 0);
+    Report::Through(Domain(giving_domain(field, local)))
 }
 
 impl Answered {
@@ -207,12 +234,20 @@ impl Machine {
                 }),
             };
         }
+        let report = named(
+            (number == 0) & !registers.privileged(),
+            fields,
+            self.exponent,
+            registers.local(),
+            right,
+            address,
+        );
         self.registers = after;
         self.violations = violations;
         Answered {
             number,
             machine: self,
-            report: Report::Nothing,
+            report,
         }
     }
 

@@ -61,6 +61,7 @@ pub struct Machine {
 pub enum Report {
     Nothing,
     Denied(Violation),
+    Through(Domain),
 }
 
 // What a call gives back: its number, the machine after it, and what it reports (RULES 2.1).

@@ -3,7 +3,7 @@
 use Prim.Native.Nat.{ℕ, zero, suc, _+_, _-_, _*_, _/_, _%_, _^_, _<_, min, max}
 use mathlib.Core.Path.{_≡_, refl, sym, ap, _∙_}
 use mathlib.Core.Bool.{Bool, true, false, _&&_}
-use borrow.Author.Tests.{eqb-true, eqb-false, ne-eqb, not-true, not-false}
+use borrow.Author.Tests.{eqb-true, eqb-false, ne-eqb, not-false}
 use lib.Arith.{bin-ind, mod-mul}
 use lib.Bits.{bitAnd, bitOr, and-step, or-step, and-comm, and-zero-r, or-zero-r, or-mod, and-mod, and-mask, and-shr, or-shr}
 use lib.Count.{trailingZeros, trailing-of-zero, under}
@@ -114,20 +114,6 @@ seen-alike one two context s alike false = within one ∙ rw alike (sym (within 
     within field =
         and-assoc field (65535 - domainBit s) context ∙ ap (bitAnd field) (and-comm (65535 - domainBit s) context)
         ∙ sym (and-assoc field context (65535 - domainBit s))
-
--- a domain of the local context is one of the global context
-pub local-held : (context mask s : ℕ) → holds (bitAnd context mask) s ≡ true → holds context s ≡ true
-local-held context mask s h = split (holds context s) refl
-  where
-    outside : bitAnd context (domainBit s) ≡ 0 → bitAnd (bitAnd context mask) (domainBit s) ≡ 0
-    outside none =
-        ap (λ (x : ℕ). bitAnd x (domainBit s)) (and-comm context mask) ∙ and-assoc mask context (domainBit s)
-        ∙ ap (bitAnd mask) none ∙ and-zero-r mask
-
-    split : (b : Bool) → holds context s ≡ b → b ≡ true
-    split true e = refl
-    split false e =
-        absurd (eqb-false (bitAnd (bitAnd context mask) (domainBit s)) 0 (not-true _ h) (outside (not-held context s e)))
 
 -- ---- the prevailing domain
 

@@ -1,19 +1,20 @@
--- A field holds a domain where the binary digit of its number is set, and the prevailing domain is the lowest-numbered one that it holds. By
--- induction on the digits: those below the lowest set one are 0, and it is 1.
+-- A set holds a domain where the binary digit of its number is set. The prevailing domain is the lowest-numbered one that a field holds, the giving domain
+-- the lowest-numbered one that a field and a local context both hold. By induction on the digits: those below the lowest set one are 0, and it is 1.
 use Prim.Native.Nat.{ℕ, zero, suc, _+_, _-_, _*_, _/_, _%_, _^_, _<_}
 use mathlib.Core.Path.{_≡_, refl, sym, ap, _∙_}
-use mathlib.Core.Bool.{Bool, true, false, not, true≢false}
-use borrow.Author.Tests.{eqb-true, eqb-false, ne-eqb}
-use lib.Bits.{bitAnd, and-mask, and-high}
+use mathlib.Core.Bool.{Bool, true, false, not, _&&_, true≢false}
+use borrow.Author.Tests.{eqb-true, eqb-false, ne-eqb, ltb-true, ltb-false}
+use lib.Bits.{bitAnd, and-le-r, and-mask, and-high, and-mod, and-shr}
 use lib.Count.{trailingZeros, under}
-use lib.Dec.{eqb}
+use lib.Dec.{eqb, ltb}
 use lib.Pow.{pow-pos, pow-add}
-use native.Mathlib.Nat.{pow-suc, pow-succ', div-div-eq-div-mul, div-one, zero-mul, suc-mul}
+use native.Mathlib.Nat.{mod-lt, zero-lt-suc, pow-suc, pow-succ', div-div-eq-div-mul, div-one, zero-mul, suc-mul}
 use native.Mathlib.Omega.{arith}
-use Rattle.rules.specs.Domains.{domainBit, holds, prevailing}
+use Rattle.rules.specs.Domains.{domainBit, holds, prevailing, givingDomain}
 use Rattle.rules.specs.Refusals.{pick}
 use Rattle.rules.specs.declared.domains.Prevailing.the-variants.{Absent, At}
-use Rattle.rules.proofs.Laws.{domain-bit}
+use Rattle.rules.proofs.Decided.{and-both}
+use Rattle.rules.proofs.Laws.{domain-bit, no-domain-held}
 
 halved : (n s : ℕ) → n / 2 ^ suc s ≡ n / 2 / 2 ^ s
 halved n s = ap (λ (x : ℕ). n / x) (pow-succ' 2 s) ∙ sym (div-div-eq-div-mul n 2 (2 ^ s))
@@ -61,6 +62,40 @@ held-digit field s known = rw part (ap not (scaled (field / 2 ^ s % 2)))
 pub held-moved : (field s : ℕ) → s < 16 → not (eqb (bitAnd (field / 2 ^ s) 1) 0) ≡ holds field s
 held-moved field s known = rw (and-mask (field / 2 ^ s) 1, held-digit field s known)
 
+-- RULES 1.6: what two sets share holds the domains that both hold, and no others
+pub held-both : (one two s : ℕ) → holds (bitAnd one two) s ≡ holds one s && holds two s
+held-both one two s = split (ltb s 16) refl
+  where
+    digits : (x y : ℕ) → x < 2 → y < 2 → not (eqb (bitAnd x y) 0) ≡ not (eqb x 0) && not (eqb y 0)
+    digits zero y _ _ = refl
+    digits (suc zero) zero _ _ = refl
+    digits (suc zero) (suc zero) _ _ = refl
+    digits (suc zero) (suc (suc y)) _ h = absurd (omega arith)
+    digits (suc (suc x)) y h _ = absurd (omega arith)
+
+    digit : (n : ℕ) → n % 2 < 2
+    digit n = mod-lt n (zero-lt-suc 1)
+
+    split : (b : Bool) → ltb s 16 ≡ b → holds (bitAnd one two) s ≡ holds one s && holds two s
+    split true e =
+        let known = ltb-true s 16 e in
+        rw (held-digit (bitAnd one two) s known, held-digit one s known, held-digit two s known, and-shr one two s, and-mod (one / 2 ^ s) (two / 2 ^ s) 1)
+        (digits (one / 2 ^ s % 2) (two / 2 ^ s % 2) (digit (one / 2 ^ s)) (digit (two / 2 ^ s)))
+    split false e =
+        let past = ltb-false s 16 e in
+        rw (no-domain-held (bitAnd one two) s past, no-domain-held one s past)
+
+-- the lowest set digit of a set that is not empty is a domain that it holds, and it holds none of lower number
+lowest-held : (set : ℕ) → eqb set 0 ≡ false → set < 65536
+    → (trailingZeros 16 set < 16) × (holds set (trailingZeros 16 set) ≡ true) × ((s : ℕ) → s < trailingZeros 16 set → holds set s ≡ false)
+lowest-held set some small =
+    let empty = eqb-false set 0 some in
+    let lowest = lowest-set 16 set (omega (arith, empty)) small in (
+      lowest .0,
+      rw (held-digit set (trailingZeros 16 set) (lowest .0), lowest .1),
+      λ s below. rw (held-digit set s (omega (arith, lowest .0)), below-unset 16 set s below),
+    )
+
 -- RULES 1.8: where a domain prevails, the field holds it and none of lower number
 pub prevailing-lowest : (field d : ℕ) → field < 65536 → prevailing field ≡ At d
     → (d < 16) × (holds field d ≡ true) × ((s : ℕ) → s < d → holds field s ≡ false)
@@ -72,12 +107,7 @@ prevailing-lowest field d small at = split (eqb field 0) refl at
     split true e f = absurd (true≢false cc)
     split false e f =
         let place : trailingZeros 16 field ≡ d = cc in
-        let some = eqb-false field 0 e in
-        let lowest : (d < 16) × (field / 2 ^ d % 2 ≡ 1) = rw (← place) (lowest-set 16 field (omega arith) small) in (
-          lowest .0,
-          rw (held-digit field d (lowest .0), lowest .1),
-          λ s below. rw (held-digit field s (omega (arith, lowest .0)), below-unset 16 field s (omega arith)),
-        )
+        rw (← place) (lowest-held field e small)
 
 -- RULES 1.8: where none prevails, the field is empty
 pub prevailing-absent : (field : ℕ) → prevailing field ≡ Absent → field ≡ 0
@@ -87,3 +117,14 @@ prevailing-absent field none = split (eqb field 0) refl none
     split : (b : Bool) → eqb field 0 ≡ b → pick b Absent (At (trailingZeros 16 field)) ≡ Absent → field ≡ 0
     split true e f = eqb-true field 0 e
     split false e f = cc
+
+-- RULES 1.17: where a field and a local context share a domain, the giving domain is in both, and no domain of higher level is
+pub giving-lowest : (field local : ℕ) → local < 65536 → eqb (bitAnd field local) 0 ≡ false
+    → let d = givingDomain field local in
+    (d < 16) × (holds field d ≡ true) × (holds local d ≡ true) × ((s : ℕ) → s < d → holds field s && holds local s ≡ false)
+unfolding givingDomain
+giving-lowest field local small share =
+    let d = trailingZeros 16 (bitAnd field local) in
+    let lowest = lowest-held (bitAnd field local) share (omega (arith, and-le-r field local)) in
+    let both = and-both (holds field d) (holds local d) (sym (held-both field local d) ∙ lowest .1) in
+    (lowest .0, both .0, both .1, λ s below. sym (held-both field local s) ∙ lowest .2 s below)

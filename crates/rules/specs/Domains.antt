@@ -32,6 +32,11 @@ withoutBit field s = bitAnd field (65535 - domainBit s)
 unfoldable pub prevailing : ℕ → Prevailing
 prevailing field = pick (eqb field 0) Absent (At (trailingZeros 16 field))
 
+-- RULES 1.17: the domain through which a field gives a right to a local context: the lowest-numbered one that both hold. It is not the prevailing
+-- domain, which the field has without a context. Where they share none it is 16, which is no domain.
+unfoldable pub givingDomain : (field local : ℕ) → ℕ
+givingDomain field local = trailingZeros 16 (bitAnd field local)
+
 -- RULES 3.4, for 11: no domain prevails, or the local context does not hold the one that does
 abbrev pub isOutside : Prevailing → ℕ → Bool
 isOutside Absent local = true

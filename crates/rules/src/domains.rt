@@ -1,6 +1,6 @@
 // Domains as bits of a field or a context, and the domain that prevails in a field (RULES, section 1).
 ghost use mathlib.Core.Path.{_≡_};
-ghost use Rattle.rules.specs.Domains.{domainBit, holds, withBit, withoutBit, prevailing, isOutside, isNotLower};
+ghost use Rattle.rules.specs.Domains.{domainBit, holds, withBit, withoutBit, prevailing, givingDomain, isOutside, isNotLower};
 
 // The domain that prevails in a field, if there is one (RULES 1.8): no number stands in for a domain that is not there.
 pub enum Prevailing {
@@ -66,6 +66,14 @@ pub fn prevailing_of(field: u16) -> Prevailing
         return Prevailing::Absent;
     }
     Prevailing::At(u16::trailing_zeros(field) as u16)
+}
+
+// The lowest-numbered domain that a field and a local context both hold, through which the field gives its right (RULES 1.17). The caller knows that
+// they share one: it is 16 where they do not.
+pub fn giving_domain(field: u16, local: u16) -> u16
+    ensures { λ r. ⌜ r ≡ givingDomain field local ⌝ }
+{
+    u16::trailing_zeros(field & local) as u16
 }
 
 impl Prevailing {

@@ -8,9 +8,9 @@ use machine::record::Answered;
 use machine::record::Machine;
 use machine::record::Report;
 ghost use mathlib.Core.Path.{_≡_};
-ghost use mathlib.Core.List.{_++_};
+ghost use mathlib.Core.List.{_++_, map};
 ghost use Prim.Native.Nat.{_+_, _-_, _/_, _≤_, min};
-ghost use lib.ListN.{length, drop};
+ghost use lib.ListN.{length, drop, set};
 ghost use lib.Seq.{sets};
 ghost use lib.Dec.{eqb};
 ghost use mathlib.Core.Bool.{true};
@@ -18,7 +18,7 @@ ghost use Rattle.rules.specs.Refusals.{pick};
 ghost use Rattle.machine.specs.Machine.{isSound};
 ghost use Rattle.image.specs.Bytes.{wordAt};
 ghost use Rattle.run.specs.Records.{callsOf};
-ghost use Rattle.run.specs.Run.{answersFrom, loadedOf, sent};
+ghost use Rattle.run.specs.Run.{answersFrom, reportsFrom, loadedOf, sent, sentReports, nameOf};
 
 // Where the calls of an input start: past its image, or at its end.
 pub fn calls_start(input: &[u8]) -> usize
@@ -42,14 +42,42 @@ fn load_input(input: &[u8], end: usize) -> Answered
     load(&input[..0])
 }
 
+// A report as a number of a buffer of names (RULES 7.7).
+fn name_of(report: Report) -> u32
+    ensures { λ r. ⌜ r ≡ nameOf report ⌝ }
+{
+    let Report::Through(domain) = report else {
+        return 0;
+    };
+    1 + domain.0 as u32
+}
+
+// What a report names, stored at a place of a lent buffer of names; past its end nothing is stored, so that who wants no names lends no places.
+fn store_name(names: &mut [u32], at: usize, report: Report)
+    ensures { λ _. ⌜ now (names .exit) ≡ set (now (names .entry)) at (nameOf report) ⌝ }
+{
+    if at < names.len() {
+        names[at] = name_of(report);
+    }
+}
+
 // The answers of the calls from a place of the input on, stored from the second place of the buffer on; the caller has counted them with
-// the load's, and has seen that there is room for them. The machine is sound at the start, so that no call needs to ask for it.
-fn answer_calls(start: Machine, input: &[u8], from: usize, count: usize, answers: &mut [u8])
+// the load's, and has seen that there is room for them. What they name is stored beside them, as far as there are places. The machine is sound at the start,
+// so that no call needs to ask for it.
+fn answer_calls(
+    start: Machine,
+    input: &[u8],
+    from: usize,
+    count: usize,
+    answers: &mut [u8],
+    names: &mut [u32],
+)
     requires { ⌜ isSound start ≡ true ⌝ }
     requires { ⌜ from ≤ length (now input) ⌝ }
     requires { ⌜ count ≡ 1 + (length (now input) - from) / 6 ⌝ }
     requires { ⌜ count ≤ length (now answers) ⌝ }
     ensures { λ _. ⌜ now (answers .exit) ≡ sets (now (answers .entry)) 1 (answersFrom start (callsOf (drop from (now (input .entry))))) ⌝ }
+    ensures { λ _. ⌜ now (names .exit) ≡ sets (now (names .entry)) 1 (map nameOf (reportsFrom start (callsOf (drop from (now (input .entry)))))) ⌝ }
 {
     let mut fields = start.fields;
     let mut saved = start.saved;
@@ -63,6 +91,8 @@ fn answer_calls(start: Machine, input: &[u8], from: usize, count: usize, answers
     while i < count {
         answered = step(answered.machine, &mut fields, &mut saved, decode(input, at));
         answers[i] = answered.number;
+        let report = answered.report;
+        store_name(names, i, report);
         i += 1;
         at += 6;
     }
@@ -79,11 +109,11 @@ fn answer_count(number: u8, left: usize) -> usize
     1
 }
 
-// The bench's call (RULES 7.1 to 7.5): the answers of a whole input, and their count.
-#[no_mangle]
-pub extern "C" fn bench_run(input: &[u8], answers: &mut [u8]) -> usize
+// The run (RULES 7.2 to 7.7): the answers of a whole input, their count, and what they name.
+pub fn run_named(input: &[u8], answers: &mut [u8], names: &mut [u32]) -> usize
     ensures { λ r. ⌜ r ≡ length (sent (now (input .entry)) (length (now (answers .entry)))) ⌝ }
     ensures { λ _. ⌜ now (answers .exit) ≡ sent (now (input .entry)) (length (now (answers .entry))) ++ drop (length (sent (now (input .entry)) (length (now (answers .entry))))) (now (answers .entry)) ⌝ }
+    ensures { λ _. ⌜ now (names .exit) ≡ sets (now (names .entry)) 1 (map nameOf (sentReports (now (input .entry)) (length (now (answers .entry))))) ⌝ }
 {
     if 32768 < input.len() {
         return 0;
@@ -97,7 +127,17 @@ pub extern "C" fn bench_run(input: &[u8], answers: &mut [u8]) -> usize
     }
     answers[0] = number;
     if number == 0 {
-        answer_calls(loaded.machine, input, end, count, answers);
+        answer_calls(loaded.machine, input, end, count, answers, names);
     }
     count
+}
+
+// The bench's call (RULES 7.1 to 7.5): the run, with no place for a name.
+#[no_mangle]
+pub extern "C" fn bench_run(input: &[u8], answers: &mut [u8]) -> usize
+    ensures { λ r. ⌜ r ≡ length (sent (now (input .entry)) (length (now (answers .entry)))) ⌝ }
+    ensures { λ _. ⌜ now (answers .exit) ≡ sent (now (input .entry)) (length (now (answers .entry))) ++ drop (length (sent (now (input .entry)) (length (now (answers .entry))))) (now (answers .entry)) ⌝ }
+{
+    let mut none = [0u32; 1];
+    run_named(input, answers, &mut none)
 }

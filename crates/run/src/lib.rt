@@ -4,6 +4,7 @@ mod records;
 
 pub use bench::bench_run;
 pub use bench::calls_start;
+pub use bench::run_named;
 pub use records::Decoded;
 pub use records::call_of_kind;
 pub use records::step;

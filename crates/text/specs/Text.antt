@@ -1,12 +1,15 @@
 -- What `pagerun` prints (RULES, section 8).
-use Prim.Native.Nat.{ℕ, _+_, _/_, _%_}
+use Prim.Native.Nat.{ℕ, zero, suc, _+_, _/_, _%_}
 use Prim.Native.Char.{code}
 use Prim.Native.String.{String, [] as noLetters, _∷_ as _then_}
 use mathlib.Core.List.{List, [], _∷_, _++_}
 use lib.Dec.{eqb, leb}
 use lib.ListN.{length}
 use Rattle.rules.specs.Refusals.{pick}
-use Rattle.run.specs.Run.{callBytes, callAnswers, isLong, loadedOf}
+use Rattle.machine.specs.Calls.{asDomain}
+use Rattle.machine.specs.declared.record.Report.{Report}
+use Rattle.machine.specs.declared.record.Report.the-variants.{Nothing, Denied, Through}
+use Rattle.run.specs.Run.{callBytes, callAnswers, callReports, isLong, loadedOf}
 
 -- a text as its bytes
 abbrev pub letters : String → List ℕ
@@ -22,14 +25,26 @@ unfoldable pub decimalOf : ℕ → List ℕ
 decimalOf n =
     leadingDigit n 10000 ++ leadingDigit n 1000 ++ leadingDigit n 100 ++ leadingDigit n 10 ++ ((48 + n % 10) ∷ [])
 
--- RULES 8.3: the line of a record: which one it is, and its number
-unfoldable pub lineOf : ℕ → ℕ → List ℕ
-lineOf i answer = decimalOf i ++ letters " " ++ decimalOf answer ++ letters "\n"
+-- RULES 8.3: the third field of a line: the domain that a report names, or `-` where it names none
+abbrev pub nameField : Report → List ℕ
+nameField Nothing = letters "-"
+nameField (Denied violation) = letters "-"
+nameField (Through s) = decimalOf (s .0)
 
--- RULES 8.3: the lines of all records, counted from i on
-unfoldable pub linesFrom : ℕ → List ℕ → List ℕ
-linesFrom i [] = []
-linesFrom i (answer ∷ rest) = lineOf i answer ++ linesFrom (i + 1) rest
+-- RULES 8.3: the line of a record: which one it is, its number and what it names
+unfoldable pub lineOf : ℕ → ℕ → Report → List ℕ
+lineOf i answer report = decimalOf i ++ letters " " ++ decimalOf answer ++ letters " " ++ nameField report ++ letters "\n"
+
+-- RULES 8.3: the lines of all records, counted from i on, from their numbers and what they report; one without a report names none
+unfoldable pub linesFrom : ℕ → List ℕ → List Report → List ℕ
+linesFrom i [] reports = []
+linesFrom i (answer ∷ rest) [] = lineOf i answer Nothing ++ linesFrom (i + 1) rest []
+linesFrom i (answer ∷ rest) (report ∷ reports) = lineOf i answer report ++ linesFrom (i + 1) rest reports
+
+-- RULES 7.7: what a number of a buffer of names stands for
+abbrev pub reportNamed : ℕ → Report
+reportNamed zero = Nothing
+reportNamed (suc s) = Through (asDomain s)
 
 -- RULES 8.4: the line for a remainder of call bytes
 unfoldable pub cutOf : List ℕ → List ℕ
@@ -43,7 +58,7 @@ loadLine number = letters "load " ++ decimalOf number ++ letters "\n"
 unfoldable pub runText : List ℕ → List ℕ
 runText input =
     loadLine (loadedOf input .number)
-    ++ pick (eqb (loadedOf input .number) 0) (linesFrom 1 (callAnswers input) ++ cutOf (callBytes input)) []
+    ++ pick (eqb (loadedOf input .number) 0) (linesFrom 1 (callAnswers input) (callReports input) ++ cutOf (callBytes input)) []
 
 -- RULES 8.5: the whole text, which for an input that is not run is one line of its own
 unfoldable pub textOf : List ℕ → List ℕ

@@ -1,14 +1,14 @@
 // The text that `pagerun` prints, made into a lent buffer from the answers of the run (RULES, section 8). Each writer puts its text at a
 // place where the caller has seen that there is room, and answers the place past it.
-use run::bench_run;
 use run::calls_start;
+use run::run_named;
 ghost use mathlib.Core.Path.{_≡_};
-ghost use mathlib.Core.List.{[], _∷_};
+ghost use mathlib.Core.List.{[], _∷_, map};
 ghost use Prim.Native.Nat.{_+_, _*_, _-_, _%_, _≤_, _<_};
 ghost use lib.ListN.{length, drop};
 ghost use lib.Dec.{eqb};
 ghost use Rattle.rules.specs.Refusals.{pick};
-ghost use Rattle.text.specs.Text.{letters, leadingDigit, decimalOf, lineOf, linesFrom, loadLine, runText, printed};
+ghost use Rattle.text.specs.Text.{letters, leadingDigit, decimalOf, nameField, reportNamed, lineOf, linesFrom, loadLine, runText, printed};
 ghost use Rattle.text.specs.Put.{Put};
 
 // One byte.
@@ -34,7 +34,7 @@ fn put_bytes(out: &mut [u8], at: usize, bytes: &[u8]) -> usize
 }
 
 // The digit of n that counts a power of ten, where n has it.
-fn put_leading(out: &mut [u8], at: usize, n: u16, power: u16) -> usize
+fn put_leading(out: &mut [u8], at: usize, n: u32, power: u32) -> usize
     requires { ⌜ at < length (now out) ⌝ }
     requires { ⌜ 0 < power ⌝ }
     ensures { λ r. ⌜ Put (now (out .entry)) at (leadingDigit n power) (now (out .exit)) r ⌝ }
@@ -46,7 +46,7 @@ fn put_leading(out: &mut [u8], at: usize, n: u16, power: u16) -> usize
 }
 
 // A number in decimal.
-fn put_decimal(out: &mut [u8], at: usize, n: u16) -> usize
+fn put_decimal(out: &mut [u8], at: usize, n: u32) -> usize
     requires { ⌜ at + 5 ≤ length (now out) ⌝ }
     ensures { λ r. ⌜ Put (now (out .entry)) at (decimalOf n) (now (out .exit)) r ⌝ }
 {
@@ -57,15 +57,28 @@ fn put_decimal(out: &mut [u8], at: usize, n: u16) -> usize
     put_byte(out, d, 48 + (n % 10) as u8)
 }
 
-// The line of a call: its number and its answer.
-fn put_line(out: &mut [u8], at: usize, i: u16, answer: u8) -> usize
-    requires { ⌜ at + 12 ≤ length (now out) ⌝ }
-    ensures { λ r. ⌜ Put (now (out .entry)) at (lineOf i answer) (now (out .exit)) r ⌝ }
+// The third field of a line: the domain that a name stands for, or that there is none.
+fn put_name(out: &mut [u8], at: usize, name: u32) -> usize
+    requires { ⌜ at + 5 ≤ length (now out) ⌝ }
+    ensures { λ r. ⌜ Put (now (out .entry)) at (nameField (reportNamed name)) (now (out .exit)) r ⌝ }
+{
+    if name == 0 {
+        return put_byte(out, at, b'-');
+    }
+    put_decimal(out, at, name - 1)
+}
+
+// The line of a call: its number, its answer and what that names.
+fn put_line(out: &mut [u8], at: usize, i: u32, answer: u8, name: u32) -> usize
+    requires { ⌜ at + 18 ≤ length (now out) ⌝ }
+    ensures { λ r. ⌜ Put (now (out .entry)) at (lineOf i answer (reportNamed name)) (now (out .exit)) r ⌝ }
 {
     let a = put_decimal(out, at, i);
     let b = put_byte(out, a, b' ');
-    let c = put_decimal(out, b, answer as u16);
-    put_byte(out, c, b'\n')
+    let c = put_decimal(out, b, answer as u32);
+    let d = put_byte(out, c, b' ');
+    let e = put_name(out, d, name);
+    put_byte(out, e, b'\n')
 }
 
 // The first line: the load's answer.
@@ -74,7 +87,7 @@ fn put_load(out: &mut [u8], at: usize, answer: u8) -> usize
     ensures { λ r. ⌜ Put (now (out .entry)) at (loadLine answer) (now (out .exit)) r ⌝ }
 {
     let a = put_bytes(out, at, b"load ");
-    let b = put_decimal(out, a, answer as u16);
+    let b = put_decimal(out, a, answer as u32);
     put_byte(out, b, b'\n')
 }
 
@@ -89,16 +102,17 @@ fn put_cut(out: &mut [u8], at: usize, left: usize) -> usize
     put_bytes(out, at, b"cut\n")
 }
 
-// The lines of the calls, from the answers of a run, the load's first. The caller has seen that there is room for the longest.
-fn put_lines(answers: &[u8], out: &mut [u8], at: usize) -> usize
+// The lines of the calls, from the answers of a run, the load's first, and what they name. The caller has seen that there is room for the longest.
+fn put_lines(answers: &[u8], names: &[u32], out: &mut [u8], at: usize) -> usize
     requires { ⌜ length (now answers) ≤ 65536 ⌝ }
-    requires { ⌜ at + 12 * (length (now answers) - 1) ≤ length (now out) ⌝ }
-    ensures { λ r. ⌜ Put (now (out .entry)) at (linesFrom 1 (drop 1 (now (answers .entry)))) (now (out .exit)) r ⌝ }
+    requires { ⌜ length (now names) ≡ length (now answers) ⌝ }
+    requires { ⌜ at + 18 * (length (now answers) - 1) ≤ length (now out) ⌝ }
+    ensures { λ r. ⌜ Put (now (out .entry)) at (linesFrom 1 (drop 1 (now (answers .entry))) (map reportNamed (drop 1 (now (names .entry))))) (now (out .exit)) r ⌝ }
 {
     let mut to = at;
     let mut i: usize = 1;
     while i < answers.len() {
-        to = put_line(out, to, i as u16, answers[i]);
+        to = put_line(out, to, i as u32, answers[i], names[i]);
         i += 1;
     }
     to
@@ -117,10 +131,11 @@ fn put_run(input: &[u8], out: &mut [u8]) -> usize
     ensures { λ r. ⌜ Put (now (out .entry)) 0 (runText (now (input .entry))) (now (out .exit)) r ⌝ }
 {
     let mut answers = [0u8; 5462];
-    let count = bench_run(input, &mut answers);
+    let mut names = [0u32; 5462];
+    let count = run_named(input, &mut answers, &mut names);
     let number = answers[0];
     let a = put_load(out, 0, number);
-    let b = put_lines(&answers[..count], out, a);
+    let b = put_lines(&answers[..count], &names[..count], out, a);
     put_cut(
         out,
         b,

@@ -1,4 +1,5 @@
--- `Machine::access_lent` meets its contract: it changes the flag and the last violation alone, and its number is that of the conditions.
+-- `Machine::access_lent` meets its contract: it changes the flag and the last violation alone, its number is that of the conditions, and by it and the mode
+-- it names a domain or none.
 use mathlib.Core.Path.{ap, _∙_}
 use mathlib.Core.Logic.{⊎-elim}
 use borrow.Author.Tests.{eq-eqb, ne-eqb}
@@ -16,6 +17,10 @@ returns c =
     let start : tie.Start = (search) in
     let numbering : tie.After-access-at = (search) in
     let choosing : tie.After-or-where = (search) in
+    let asking : tie.After-privileged = (search) in
+    let local : tie.After-local = (search) in
+    let naming : tie.After-named = (search) in
+    let joining : tie.Joined1 = (search) in
     let a = start .args in
     let n = numbering .access-at .result in
     ap (keeping (a .self))
@@ -23,7 +28,8 @@ returns c =
     (numbering .access-at .ensures)
     (rw (choosing .or-where .ensures, choosing .before .with-pending .ensures))
     (⊎-elim (λ w. ap (λ (v : Violations). v .last) (w .1) ∙ rw (eq-eqb n 9 (w .0 .taken))) (λ w. ap (λ (v : Violations). v .last) (w .1) ∙ rw (ne-eqb n 9 (w .0 .left)))
-    (c .if1 .came)))
+    (joining .if1 .came))
+    (naming .named .ensures ∙ rw (local .local .ensures, asking .privileged .ensures)))
 
 pub access-lent-spec : {M : Type 1} → statement M
-access-lent-spec = tie.close (tie.spec (λ c κs. search needs) (λ c κs. search needs) (λ c κs. search needs) returns)
+access-lent-spec = tie.close (tie.spec (λ c κs. search needs) (λ c κs. search needs) (λ c κs. search needs) (λ c κs. search needs) (λ c κs. search needs) (λ c κs. search needs) returns)

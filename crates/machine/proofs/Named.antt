@@ -1,0 +1,172 @@
+-- Through which domain an access goes (RULES 1.17, 2.13, 3.3): where a domain is named and where none, which one it is, and of two bytes whose. By the
+-- conditions of an accepted access, which are not met, and the law of the giving domain; and a computed table of what accesses name.
+use Prim.Native.Nat.{ℕ, _^_, _/_, _<_}
+use mathlib.Core.Path.{_≡_, refl, ap, sym, _∙_}
+use mathlib.Core.Bool.{Bool, true, false, not, _&&_, true≢false}
+use mathlib.Core.List.{List, [], _∷_, _++_, map}
+use mathlib.Core.Logic.{_⊎_, inl, inr, ⊎-elim}
+use borrow.Author.Tests.{eqb-true}
+use native.Mathlib.Omega.{arith}
+use lib.Bits.{bitAnd, and-le-l}
+use lib.Count.{trailingZeros}
+use lib.Dec.{eqb}
+use lib.ListN.{replicate}
+use Rattle.rules.specs.Registers.{localContext}
+use Rattle.rules.specs.Domains.{holds, givingDomain}
+use Rattle.rules.specs.Refusals.{pick}
+use Rattle.rules.specs.declared.registers.Mode.the-variants.{User, Privileged}
+use Rattle.rules.specs.declared.registers.Registers.{Registers}
+use Rattle.rules.proofs.Lowest.{giving-lowest}
+use Rattle.machine.specs.Machine.{isSound, fieldOf}
+use Rattle.machine.specs.Calls.{callOf, checksOf, accessChecks, effectOf, after, asDomain, inPrivilegedMode, inUserMode, isDenied, handedOut, numberOf, reportOf}
+use Rattle.machine.specs.declared.record.Machine.{Machine}
+use Rattle.machine.specs.declared.record.Domain.{Domain}
+use Rattle.machine.specs.declared.record.LastViolation.{LastViolation}
+use Rattle.machine.specs.declared.record.LastViolation.the-variants.{Absent, Was}
+use Rattle.machine.specs.declared.record.Report.{Report}
+use Rattle.machine.specs.declared.record.Report.the-variants.{Nothing, Denied, Through}
+use Rattle.machine.specs.declared.record.Answered.{Answered}
+use Rattle.machine.specs.declared.record.Width.{Width}
+use Rattle.machine.specs.declared.record.Width.the-variants.{One, Two}
+use Rattle.machine.specs.declared.record.Call.{Call}
+use Rattle.machine.specs.declared.record.Call.the-variants.{Access, Grant, Revoke, SetMask, Enter, Return, Switch, StoreField, StoreContext, StoreMask, StoreMode, AskViolation}
+use Rattle.machine.proofs.Answers.{accepted}
+use Rattle.machine.proofs.Allowed.{Allowed, allowed, allows, user-allowed}
+use Rattle.machine.proofs.Touched.{Touches, first-touched}
+use Rattle.machine.proofs.Written.{stored, live, denied, holding, gives}
+
+-- a report names a domain
+abbrev pub names : Report → Bool
+names Nothing = false
+names (Denied violation) = false
+names (Through s) = true
+
+-- a call is an access, of either width
+abbrev pub isAccess : Call → Bool
+isAccess (Access width right address) = true
+isAccess (Grant right page s) = false
+isAccess (Revoke right page s) = false
+isAccess (SetMask bits) = false
+isAccess Enter = false
+isAccess Return = false
+isAccess (Switch program) = false
+isAccess (StoreField right page bits) = false
+isAccess (StoreContext bits) = false
+isAccess (StoreMask bits) = false
+isAccess (StoreMode mode) = false
+isAccess AskViolation = false
+
+-- RULES 2.13: a domain is named exactly where an access is allowed in user mode
+pub named-exactly : (m : Machine) (call : Call) → names (callOf m call .report) ≡ isAccess call && (eqb (callOf m call .number) 0 && inUserMode m)
+unfolding callOf
+named-exactly m call = each call (eqb (numberOf m call) 0)
+  where
+    none : (done : Bool) → names (pick done Nothing Nothing) ≡ false
+    none true = refl
+    none false = refl
+
+    question : (done : Bool) (last : LastViolation) → names (pick done (handedOut last) Nothing) ≡ false
+    question true Absent = refl
+    question true (Was violation) = refl
+    question false last = refl
+
+    mode : (done privileged : Bool) (s : Domain) → names (pick done (pick privileged Nothing (Through s)) Nothing) ≡ done && not privileged
+    mode true true s = refl
+    mode true false s = refl
+    mode false privileged s = refl
+
+    each : (call : Call) (done : Bool) → names (pick done (reportOf m call) Nothing) ≡ isAccess call && (done && inUserMode m)
+    each (Access width right address) done = mode done (inPrivilegedMode m) _
+    each (Grant right page s) done = none done
+    each (Revoke right page s) done = none done
+    each (SetMask bits) done = none done
+    each Enter done = none done
+    each Return done = none done
+    each (Switch program) done = none done
+    each (StoreField right page bits) done = none done
+    each (StoreContext bits) done = none done
+    each (StoreMask bits) done = none done
+    each (StoreMode mode) done = none done
+    each AskViolation done = question done (m .violations .last)
+
+module _ (m : Machine) (width : Width) (right address : ℕ) where
+  -- the field of that right to the page of the first byte
+  abbrev field : ℕ
+  field = fieldOf m right (address / 2 ^ m .exponent)
+
+  abbrev local : ℕ
+  local = localContext (m .registers)
+
+  -- where a domain is named, the access is allowed in user mode, and it is the giving domain
+  through : {s : Domain} → callOf m (Access width right address) .report ≡ Through s
+      → (numberOf m (Access width right address) ≡ 0) × (inPrivilegedMode m ≡ false) × (givingDomain field local ≡ s .0)
+  unfolding callOf
+  through {s} = split (eqb (numberOf m (Access width right address)) 0) refl (inPrivilegedMode m) refl
+    where
+      numbered : Report → ℕ
+      numbered Nothing = 0
+      numbered (Denied violation) = 0
+      numbered (Through t) = t .0
+
+      split : (done : Bool) → eqb (numberOf m (Access width right address)) 0 ≡ done → (privileged : Bool) → inPrivilegedMode m ≡ privileged
+          → pick done (pick privileged Nothing (Through (asDomain (givingDomain field local)))) Nothing ≡ Through s
+          → (numberOf m (Access width right address) ≡ 0) × (inPrivilegedMode m ≡ false) × (givingDomain field local ≡ s .0)
+      split true e true f h = absurd (true≢false (sym (ap names h)))
+      split true e false f h = (eqb-true (numberOf m (Access width right address)) 0 e, f, ap numbered h)
+      split false e privileged f h = absurd (true≢false (sym (ap names h)))
+
+  -- RULES 1.17, 3.3: the named domain is in the local context and in the field of the first byte's page, and no domain of higher level is in both
+  pub named-lowest : (s : Domain) → m .registers .context < 65536 → callOf m (Access width right address) .report ≡ Through s
+      → (s .0 < 16) × (holds local (s .0) ≡ true) × (holds field (s .0) ≡ true) × ((t : ℕ) → t < s .0 → holds field t && holds local t ≡ false)
+  named-lowest s small h =
+      let t = through h in
+      let share = user-allowed m width right address (t .0) (t .1) .1 address (first-touched width address) in
+      let lowest = giving-lowest field local (omega (arith, and-le-l (m .registers .context) (m .registers .mask))) share in
+      rw (← t .2) (lowest .0, lowest .2, lowest .1, lowest .3)
+
+-- RULES 3.3: of two bytes it is the first one's domain
+pub named-first : (m : Machine) (right address : ℕ) → numberOf m (Access Two right address) ≡ 0
+    → callOf m (Access Two right address) .report ≡ callOf m (Access One right address) .report
+unfolding callOf
+named-first m right address two = rw (two, allows m One right address (accepted m (Access Two right address) two .0) one)
+  where
+    a : Allowed m Two right address
+    a = allowed m Two right address two
+
+    within : {byte : ℕ} → Touches One address byte → Touches Two address byte
+    within t = (t .0, omega (arith, t .1))
+
+    one : Allowed m One right address
+    one =
+        record {
+          right-known = a .right-known;
+          paged = λ byte t. a .paged byte (within t);
+          by-virtue = ⊎-elim (λ privileged. inl privileged) (λ user. inr (user .0, user .1, λ byte t. user .2 byte (within t))) (a .by-virtue);
+        }
+
+-- ---- computed: two pages of 32 bytes whose fields share other domains with the local context, 3 and 7 to 15, than with the global context or the mask alone
+
+abbrev node : Registers → Machine
+node registers =
+    holding (denied 0 1 63) 2 5 (0x0A36 ∷ 0x9050 ∷ 0x8C81 ∷ 0x0018 ∷ replicate 252 0xFFFF) registers 0 (replicate 8 false) 1 0
+    (replicate 8 (stored 0xFFFF 0xFFFF User))
+
+abbrev through-at : Registers → ℕ → Answered
+through-at registers s = record { number = 0; machine = node registers; report = Through (record { 0 = s }) }
+
+pub domains-named :
+    let user = live 0xFFE8 0xFF9C User false in
+    let high = live 0xFFE8 0xF000 User false in
+    let privileged = live 0xFFE8 0xFF9C Privileged false in
+    let pending = live 0xFFE8 0xFF9C User true in
+    (map (callOf (node user))
+    (Access One 0 0 ∷ Access One 0 31 ∷ Access One 1 0 ∷ Access One 0 32 ∷ Access One 0 63 ∷ Access One 1 40
+    ∷ Access Two 0 30 ∷ Access Two 0 31 ∷ Access Two 1 31 ∷ Access Two 0 32 ∷ Access Two 1 62 ∷ [])
+    ≡ map (through-at user) (9 ∷ 9 ∷ 12 ∷ 7 ∷ 7 ∷ 3 ∷ 9 ∷ 9 ∷ 12 ∷ 7 ∷ 3 ∷ []))
+    × (map (callOf (node high)) (Access One 1 5 ∷ Access One 0 40 ∷ Access Two 1 5 ∷ []) ≡ map (through-at high) (12 ∷ 15 ∷ 12 ∷ []))
+    × (map (λ (call : Call). callOf (node high) call .report) (Access One 0 5 ∷ Access One 1 40 ∷ Access Two 0 31 ∷ Access Two 1 31 ∷ []) ≡ replicate 4 Nothing)
+    × (map (callOf (node user)) (Access One 2 0 ∷ Access Two 0 63 ∷ Access One 1 64 ∷ []) ≡ gives 2 (node user) ∷ gives 3 (node user) ∷ gives 3 (node user) ∷ [])
+    × (map (callOf (node privileged)) (Access One 0 0 ∷ Access One 1 40 ∷ Access Two 0 31 ∷ []) ≡ replicate 3 (gives 0 (node privileged)))
+    × (map (callOf (node pending)) (Access One 0 0 ∷ Access Two 0 31 ∷ []) ≡ replicate 2 (gives 8 (node pending)))
+unfolding callOf checksOf accessChecks effectOf after isSound givingDomain trailingZeros
+domains-named = (refl, refl, refl, refl, refl, refl)
