@@ -7,19 +7,19 @@ use mathlib.Core.Bool.{Bool, true, false}
 use mathlib.Core.List.{List, [], _∷_, _++_, map}
 use lib.Count.{trailingZeros}
 use lib.ListN.{length, replicate, set, take}
-use Rattle.rules.specs.Domains.{domainBit, prevailing}
+use Rattle.rules.specs.Domains.{domainBit, prevailing, givingDomain}
 use Rattle.rules.specs.declared.registers.Mode.the-variants.{User, Privileged}
 use Rattle.rules.specs.declared.registers.Registers.{Registers}
 use Rattle.machine.specs.Machine.{isSound, withLast}
 use Rattle.machine.specs.Calls.{callOf, checksOf, effectOf, entered, accessChecks, changeChecks, after}
 use Rattle.machine.specs.declared.record.Machine.{Machine}
 use Rattle.machine.specs.declared.record.Program.{Program}
-use Rattle.machine.specs.declared.record.Report.the-variants.{Denied}
+use Rattle.machine.specs.declared.record.Report.the-variants.{Nothing, Denied, Through}
 use Rattle.machine.specs.declared.record.Answered.{Answered}
 use Rattle.machine.specs.declared.record.Width.the-variants.{One}
 use Rattle.machine.specs.declared.record.Call.{Call}
 use Rattle.machine.specs.declared.record.Call.the-variants.{Access, Grant, Revoke, SetMask, Enter, Return, AskViolation}
-use Rattle.machine.proofs.Written.{stored, live, denied, whole, gives}
+use Rattle.machine.proofs.Written.{stored, live, denied, whole, gives, goesThrough}
 use Rattle.image.specs.Bytes.{byteAt, wordOf, wordAt, word, entries, bodies}
 use Rattle.image.specs.Description.{bytesOf, machineOf, pad}
 use Rattle.image.specs.Load.{describe, loadChecks, loadOf, lengthTests, kindTests, shapeEntryTests, shapeTests, bodyTests}
@@ -198,11 +198,11 @@ pub twelve-asked :
 unfolding starred
 twelve-asked = refl
 
--- "0", "0", "9", "9", "3", "12", "11", "0, field 0x0001", "11", "0", "5", "7"
+-- "0" through domain 1 twice, "9", "9", "3", "12", "11", "0, field 0x0001", "11", "0", "5", "7"
 abbrev twelve : List Answered
 twelve =
-    gives 0 (of-sample 9 3 false)
-    ∷ gives 0 (of-sample 9 3 false)
+    goesThrough 1 (of-sample 9 3 false)
+    ∷ goesThrough 1 (of-sample 9 3 false)
     ∷ gives 9 (withLast (denied 0 1 0) (of-sample 9 3 true))
     ∷ gives 9 (withLast (denied 0 0 767) (of-sample 9 3 true))
     ∷ gives 3 (of-sample 9 3 false)
@@ -216,14 +216,15 @@ twelve =
     ∷ []
 
 pub twelve-given : (map outcome starred ≡ twelve) × (map expected starred ≡ twelve)
-unfolding starred sampleMachine callOf checksOf effectOf accessChecks changeChecks after isSound domainBit prevailing loadOf loadChecks lengthTests kindTests shapeEntryTests shapeTests bodyTests describe machineOf sampleBytes trailingZeros
+unfolding starred sampleMachine callOf checksOf effectOf accessChecks changeChecks after isSound domainBit prevailing givingDomain loadOf loadChecks lengthTests kindTests shapeEntryTests shapeTests bodyTests describe machineOf sampleBytes trailingZeros
 twelve-given = (refl, refl)
 
 -- a case that says what is not so: what it must give is what it says, and what the definitions give is something else; and one whose call reports
 pub cases-judged :
-    let wrong : Case = record { before = SetMask 0x0007 ∷ []; call = Return; number = 99; machine = nothing } in
-    let asked : Case = record { before = Access One 1 0 ∷ Enter ∷ []; call = AskViolation; number = 0; machine = nothing } in
-    (outcome wrong ∷ expected wrong ∷ [] ≡ gives 7 (of-sample 9 7 false) ∷ gives 99 nothing ∷ [])
+    let wrong : Case = record { before = SetMask 0x0007 ∷ []; call = Return; number = 99; machine = nothing; report = Through (record { 0 = 5 }) } in
+    let asked : Case = record { before = Access One 1 0 ∷ Enter ∷ []; call = AskViolation; number = 0; machine = nothing; report = Nothing } in
+    (outcome wrong ∷ expected wrong ∷ []
+    ≡ gives 7 (of-sample 9 7 false) ∷ record { number = 99; machine = nothing; report = Through (record { 0 = 5 }) } ∷ [])
     × (outcome asked .report ≡ Denied (record { program = 0; right = 1; address = 0 }))
 unfolding callOf checksOf accessChecks effectOf entered after isSound loadOf loadChecks lengthTests kindTests shapeEntryTests shapeTests bodyTests describe machineOf sampleBytes
 cases-judged = (refl, refl)

@@ -4,7 +4,7 @@ use mathlib.Core.List.{map}
 use lib.Count.{trailingZeros}
 use Rattle.machine.specs.Machine.{isSound}
 use Rattle.machine.specs.Calls.{callOf, silent, checksOf, effectOf, accessChecks, changeChecks, after}
-use Rattle.rules.specs.Domains.{domainBit, prevailing}
+use Rattle.rules.specs.Domains.{domainBit, prevailing, givingDomain}
 use Rattle.image.specs.Description.{bytesOf, machineOf}
 use Rattle.image.specs.Load.{describe, loadChecks, loadOf, lengthTests, kindTests, shapeEntryTests, shapeTests, bodyTests}
 use Rattle.image.specs.Sample.{sampleBytes, sampleDescription, sampleMachine}
@@ -19,5 +19,5 @@ unfolding bytesOf sampleDescription sampleBytes
 sample-written = refl
 
 pub starred-hold : map outcome starred ≡ map expected starred
-unfolding starred sampleMachine callOf checksOf effectOf accessChecks changeChecks after isSound domainBit prevailing loadOf loadChecks lengthTests kindTests shapeEntryTests shapeTests bodyTests describe machineOf sampleBytes trailingZeros
+unfolding starred sampleMachine callOf checksOf effectOf accessChecks changeChecks after isSound domainBit prevailing givingDomain loadOf loadChecks lengthTests kindTests shapeEntryTests shapeTests bodyTests describe machineOf sampleBytes trailingZeros
 starred-hold = refl

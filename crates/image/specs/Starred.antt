@@ -2,11 +2,13 @@
 use Prim.Native.Nat.{ℕ}
 use mathlib.Core.Bool.{true, false}
 use mathlib.Core.List.{List, [], _∷_}
-use Rattle.machine.specs.Calls.{asPage, asDomain, callOf, silent}
+use Rattle.machine.specs.Calls.{asPage, asDomain, callOf}
 use Rattle.machine.specs.Machine.{withLast}
 use Rattle.machine.specs.declared.record.Machine.{Machine}
 use Rattle.machine.specs.declared.record.LastViolation.{LastViolation}
 use Rattle.machine.specs.declared.record.LastViolation.the-variants.{Was}
+use Rattle.machine.specs.declared.record.Report.{Report}
+use Rattle.machine.specs.declared.record.Report.the-variants.{Nothing, Through}
 use Rattle.machine.specs.declared.record.Answered.{Answered}
 use Rattle.machine.specs.declared.record.Width.the-variants.{One}
 use Rattle.machine.specs.declared.record.Call.{Call}
@@ -14,16 +16,21 @@ use Rattle.machine.specs.declared.record.Call.the-variants.{Access, Grant, Revo
 use Rattle.image.specs.Load.{loadOf}
 use Rattle.image.specs.Sample.{sampleBytes, sampleFields, sampleMachine, node, live}
 
--- RULES 5.13: the calls made first, the call, and the number and the machine that it must give
+-- RULES 5.13: the calls made first, the call, and the number, the machine and the report that it must give
 pub record Case : Type 0 where
   pub before : List Call
   pub call : Call
   pub number : ℕ
   pub machine : Machine
+  pub report : Report
 
--- a case, as a line of the table below
+-- a case that reports nothing, as a line of the table below
 abbrev row : List Call → Call → ℕ → Machine → Case
-row before call number machine = record { before = before; call = call; number = number; machine = machine }
+row before call number machine = record { before = before; call = call; number = number; machine = machine; report = Nothing }
+
+-- an access that is allowed and changes nothing, with the domain that it names
+abbrev through : Call → ℕ → Case
+through call s = record { before = []; call = call; number = 0; machine = sampleMachine; report = Through (asDomain s) }
 
 -- RULES 1.5: the number of READ
 abbrev READ : ℕ
@@ -41,9 +48,9 @@ denied right address = Was (record { program = 0; right = right; address = addre
 unfoldable pub starred : List Case
 starred =
     -- READ of page 1 has domain 1, which is in the local context
-    row [] (Access One READ 256) 0 sampleMachine
+    through (Access One READ 256) 1
     -- and so has WRITE
-    ∷ row [] (Access One WRITE 256) 0 sampleMachine
+    ∷ through (Access One WRITE 256) 1
     -- WRITE of page 0 has no domain
     ∷ row [] (Access One WRITE 0) 9 (withLast (denied WRITE 0) (node sampleFields (live 0x0003 true)))
     -- READ of page 2 has domains 2 and 3, neither of them in the local context
@@ -76,6 +83,6 @@ afterCalls m (call ∷ rest) = afterCalls (callOf m call .machine) rest
 abbrev pub outcome : Case → Answered
 outcome c = callOf (afterCalls (loadOf sampleBytes .machine) (c .before)) (c .call)
 
--- RULES 5.13: what a case must give, with nothing reported
+-- RULES 5.13: what a case must give
 abbrev pub expected : Case → Answered
-expected c = silent (c .number) (c .machine)
+expected c = record { number = c .number; machine = c .machine; report = c .report }

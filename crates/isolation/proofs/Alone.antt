@@ -16,7 +16,7 @@ use Rattle.machine.specs.declared.record.Machine.{Machine}
 use Rattle.machine.specs.declared.record.Answered.{Answered}
 use Rattle.machine.specs.declared.record.Call.{Call}
 use Rattle.machine.specs.declared.record.Call.the-variants.{Enter, Return, Switch}
-use Rattle.machine.proofs.View.{IsCommand, an-access, a-change, a-mask, Alike, view, seen-at, command-stays, alike-number, alike-after}
+use Rattle.machine.proofs.View.{IsCommand, an-access, a-change, a-mask, Alike, view, seen-at, command-stays, alike-number, alike-report, alike-after}
 use Rattle.machine.proofs.Turn.{entryOf, home, registersOf, turned}
 use Rattle.isolation.specs.Histories.{Command, access, grant, revoke, setMask, commandCall, Turn, History, turnCalls, turnsOf, Made, callsOf}
 use Rattle.isolation.specs.Isolation.{Apart, InTable, Observation, contextOf, observed, observedFrom, ownTurns, rightsBelow, rightsOf, takenOut}
@@ -59,13 +59,13 @@ module _ (start : Machine) (chosen : ℕ) where
   -- ---- one call
 
   own-call : (m n : Machine) (call : Call) (rest rest′ : List Made) (a b : Answered)
-      → callOf m call ≡ a → callOf n call ≡ b → a .number ≡ b .number
+      → callOf m call ≡ a → callOf n call ≡ b → a .number ≡ b .number → a .report ≡ b .report
       → m .pages ≡ n .pages → view context m ≡ view context n
       → a .machine .pages ≡ b .machine .pages → view context (a .machine) ≡ view context (b .machine)
       → shown (a .machine) rest ≡ shown (b .machine) rest′
       → shown m (madeBy chosen call ∷ rest) ≡ shown n (madeBy chosen call ∷ rest′)
   unfolding observedFrom
-  own-call m n call rest rest′ a b e f number pages seen pages′ seen′ others =
+  own-call m n call rest rest′ a b e f number report pages seen pages′ seen′ others =
       let before = rights-same context m n pages seen in
       let after = rights-same context (a .machine) (b .machine) pages′ seen′ in
       rw (eq-eqb chosen chosen refl, e, f) (cc)
@@ -135,10 +135,16 @@ module _ (start : Machine) (chosen : ℕ) where
 
   -- ---- the chosen program's turn
 
-  -- its command has one number on both, and leaves them together
+  -- its global context is live in it
+  own-live : {m n : Machine} → Together m n → m .registers .context ≡ context
+  own-live t = live-context (t .first) ∙ ap (contextOf start) (t .current)
+
+  -- its command has one number on both and reports the same, and leaves them together
   own-number : {m n : Machine} → Together m n → {call : Call} → IsCommand call → numberOf m call ≡ numberOf n call
-  own-number t =
-      alike-number (t .alike) (live-context (t .first) ∙ ap (contextOf start) (t .current)) (t .first .sound) (t .second .sound)
+  own-number t = alike-number (t .alike) (own-live t) (t .first .sound) (t .second .sound)
+
+  own-report : {m n : Machine} → Together m n → {call : Call} → IsCommand call → callOf m call .report ≡ callOf n call .report
+  own-report t = alike-report (t .alike) (own-live t) (t .first .sound) (t .second .sound)
 
   together-command : {m n : Machine} → Together m n → {call : Call} → IsCommand call
       → Together (callOf m call .machine) (callOf n call .machine)
@@ -160,7 +166,7 @@ module _ (start : Machine) (chosen : ℕ) where
     own-commands (command ∷ commands) m n t =
         let call = commandCall command in
         let next = together-command t (is-command command) in
-        own-call m n call _ _ (callOf m call) (callOf n call) refl refl (own-number t (is-command command))
+        own-call m n call _ _ (callOf m call) (callOf n call) refl refl (own-number t (is-command command)) (own-report t (is-command command))
         (t .alike .pages) (t .alike .seen) (next .alike .pages) (next .alike .seen)
         (own-commands commands (callOf m call .machine) (callOf n call .machine) next)
 
@@ -172,9 +178,9 @@ module _ (start : Machine) (chosen : ℕ) where
         let t = begins (b .first) chosen below in
         let t′ = begins (b .second) chosen below in
         let pages : m .pages ≡ n .pages = b .first .pages ∙ sym (b .second .pages) in
-        own-call m n Enter _ _ _ _ (t .entry) (t′ .entry) refl pages (b .seen) pages (b .seen)
-        (own-call (entered m) (entered n) (Switch chosen) _ _ _ _ (t .switch) (t′ .switch) refl pages (b .seen) pages (b .seen)
-        (own-call (switched (entered m) chosen) (switched (entered n) chosen) Return _ _ _ _ (t .return) (t′ .return) refl
+        own-call m n Enter _ _ _ _ (t .entry) (t′ .entry) refl refl pages (b .seen) pages (b .seen)
+        (own-call (entered m) (entered n) (Switch chosen) _ _ _ _ (t .switch) (t′ .switch) refl refl pages (b .seen) pages (b .seen)
+        (own-call (switched (entered m) chosen) (switched (entered n) chosen) Return _ _ _ _ (t .return) (t′ .return) refl refl
         pages (b .seen) pages (b .seen)
         (own-commands commands (turned m chosen) (turned n chosen) (together below b))))
 

@@ -15,6 +15,7 @@ use Rattle.rules.proofs.Laws.{no-domain-held}
 use Rattle.machine.specs.Machine.{fieldOf, isSound, noProgram}
 use Rattle.machine.specs.Calls.{asPage, asDomain, accessChecks, after, callOf, checksOf, changeChecks, effectOf, entered, returned, switched}
 use Rattle.machine.specs.declared.record.Machine.{Machine}
+use Rattle.machine.specs.declared.record.Report.the-variants.{Nothing}
 use Rattle.machine.specs.declared.record.Width.the-variants.{One}
 use Rattle.machine.specs.declared.record.Call.the-variants.{Access, Enter, Grant, Return, Revoke, SetMask, Switch}
 use Rattle.image.specs.Load.{loadOf}
@@ -56,7 +57,7 @@ node-started programs mode sound =
     small (suc (suc program)) = past 6 program
 
 abbrev shown : ℕ → List ℕ → List ℕ → Observation
-shown number before after = record { number = number; before = before; after = after }
+shown number before after = record { number = number; report = Nothing; before = before; after = after }
 
 -- READ and WRITE of the three pages to the domains 0, 1 and 2, without domain 1 on READ of page 0 and with it
 abbrev plain : List ℕ

@@ -9,7 +9,7 @@ use lib.Count.{trailingZeros}
 use lib.Dec.{eqb}
 use lib.ListN.{getD, replicate}
 use Rattle.rules.specs.Refusals.{pick}
-use Rattle.rules.specs.Domains.{domainBit, holds, prevailing}
+use Rattle.rules.specs.Domains.{domainBit, holds, prevailing, givingDomain}
 use Rattle.rules.specs.declared.domains.Prevailing.the-variants.{At}
 use Rattle.rules.specs.declared.registers.Mode.the-variants.{User}
 use Rattle.machine.specs.Machine.{isSound}
@@ -18,6 +18,7 @@ use Rattle.machine.specs.declared.record.Machine.{Machine}
 use Rattle.machine.specs.declared.record.Program.{Program}
 use Rattle.machine.specs.declared.record.Page.{Page}
 use Rattle.machine.specs.declared.record.Domain.{Domain}
+use Rattle.machine.specs.declared.record.Report.the-variants.{Nothing, Through}
 use Rattle.machine.specs.declared.record.Width.the-variants.{One, Two}
 use Rattle.machine.specs.declared.record.Call.{Call}
 use Rattle.machine.specs.declared.record.Call.the-variants.{Access, Enter, Grant, Return, Revoke, SetMask, Switch}
@@ -124,20 +125,26 @@ unfolding rightsOf
 rights-seen = (refl, refl, refl, refl)
 
 abbrev shown : ℕ → List ℕ → List ℕ → Observation
-shown number before after = record { number = number; before = before; after = after }
+shown number before after = record { number = number; report = Nothing; before = before; after = after }
+
+-- what an access shows that goes through a domain, which leaves the rights as they are
+abbrev goes : ℕ → List ℕ → Observation
+goes s rights = record { number = 0; report = Through (record { 0 = s }); before = rights; after = rights }
 
 -- what each program observes: program 0 its three calls, of which the second reads across the edge to a page that it may not read and the third finds the
--- flag set, program 2 what program 1 may do to domain 10, in between
+-- flag set, program 2 what program 1 may do to domain 10, in between; both write to page 1 through domain 9
 pub history-observed :
     (observed small 0 history ≡ shown 0 (1 ∷ 0 ∷ 0 ∷ 0 ∷ []) (1 ∷ 0 ∷ 0 ∷ 0 ∷ []) ∷ shown 9 (1 ∷ 0 ∷ 0 ∷ 0 ∷ []) (1 ∷ 0 ∷ 0 ∷ 0 ∷ [])
     ∷ shown 8 (1 ∷ 0 ∷ 0 ∷ 0 ∷ []) (1 ∷ 0 ∷ 0 ∷ 0 ∷ []) ∷ [])
     × (observed small 1 history
     ≡ replicate 5 (shown 0 (0x0200 ∷ 0 ∷ 0 ∷ 0x0200 ∷ []) (0x0200 ∷ 0 ∷ 0 ∷ 0x0200 ∷ []))
-    ++ (replicate 5 (shown 0 (0x0200 ∷ 0 ∷ 0 ∷ 0x0200 ∷ []) (0x0200 ∷ 0 ∷ 0 ∷ 0x0200 ∷ []))
-    ++ (shown 9 (0x0200 ∷ 0 ∷ 0 ∷ 0x0200 ∷ []) (0x0200 ∷ 0 ∷ 0 ∷ 0x0200 ∷ [])
+    ++ (replicate 4 (shown 0 (0x0200 ∷ 0 ∷ 0 ∷ 0x0200 ∷ []) (0x0200 ∷ 0 ∷ 0 ∷ 0x0200 ∷ []))
+    ++ (goes 9 (0x0200 ∷ 0 ∷ 0 ∷ 0x0200 ∷ [])
+    ∷ shown 9 (0x0200 ∷ 0 ∷ 0 ∷ 0x0200 ∷ []) (0x0200 ∷ 0 ∷ 0 ∷ 0x0200 ∷ [])
     ∷ shown 8 (0x0200 ∷ 0 ∷ 0 ∷ 0x0200 ∷ []) (0x0200 ∷ 0 ∷ 0 ∷ 0x0200 ∷ [])
     ∷ [])))
-    × (observed small 2 history ≡ replicate 4 (shown 0 (0x0700 ∷ 0 ∷ 0 ∷ 0x0600 ∷ []) (0x0700 ∷ 0 ∷ 0 ∷ 0x0600 ∷ [])))
+    × (observed small 2 history
+    ≡ replicate 3 (shown 0 (0x0700 ∷ 0 ∷ 0 ∷ 0x0600 ∷ []) (0x0700 ∷ 0 ∷ 0 ∷ 0x0600 ∷ [])) ++ (goes 9 (0x0700 ∷ 0 ∷ 0 ∷ 0x0600 ∷ []) ∷ []))
     × (observed small 2 (record { opening = []; turns = by 1 (revoke 1 (record { 0 = 1 }) (record { 0 = 10 }) ∷ []) ∷ by 2 (access One 1 0 ∷ []) ∷ [] })
     ≡ replicate 3 (shown 0 (0x0300 ∷ 0 ∷ 0 ∷ 0x0200 ∷ []) (0x0300 ∷ 0 ∷ 0 ∷ 0x0200 ∷ []))
     ++ (shown 9 (0x0300 ∷ 0 ∷ 0 ∷ 0x0200 ∷ []) (0x0300 ∷ 0 ∷ 0 ∷ 0x0200 ∷ []) ∷ []))
@@ -146,7 +153,7 @@ pub history-observed :
     × (observed small 2 (record { opening = []; turns = by 2 (grant 1 (record { 0 = 1 }) (record { 0 = 10 }) ∷ revoke 1 (record { 0 = 1 }) (record { 0 = 10 }) ∷ []) ∷ [] })
     ≡ replicate 4 (shown 0 (0x0300 ∷ 0 ∷ 0 ∷ 0x0600 ∷ []) (0x0300 ∷ 0 ∷ 0 ∷ 0x0600 ∷ []))
     ++ (shown 0 (0x0300 ∷ 0 ∷ 0 ∷ 0x0600 ∷ []) (0x0300 ∷ 0 ∷ 0 ∷ 0x0200 ∷ []) ∷ []))
-unfolding observed observedFrom rightsOf callOf checksOf accessChecks changeChecks effectOf entered switched returned after isSound domainBit prevailing trailingZeros
+unfolding observed observedFrom rightsOf callOf checksOf accessChecks changeChecks effectOf entered switched returned after isSound domainBit prevailing givingDomain trailingZeros
 history-observed = (refl, refl, refl, refl, refl, refl)
 
 -- a command's call, a turn's calls and the turns of a history, whatever they are
@@ -163,7 +170,13 @@ turns-spelled start program commands h = (refl, refl)
 -- what a call shows, and the machine that the next one is made on
 pub observed-spelled : (chosen context : ℕ) (m : Machine) (program : ℕ) (call : Call) (rest : List Made)
     → let next = observedFrom chosen context (callOf m call .machine) rest in
-    observedFrom chosen context m (made program call ∷ rest)
-    ≡ pick (eqb program chosen) (shown (callOf m call .number) (rightsOf context m) (rightsOf context (callOf m call .machine)) ∷ next) next
+    let all : Observation =
+    record {
+      number = callOf m call .number;
+      report = callOf m call .report;
+      before = rightsOf context m;
+      after = rightsOf context (callOf m call .machine);
+    } in
+    observedFrom chosen context m (made program call ∷ rest) ≡ pick (eqb program chosen) (all ∷ next) next
 unfolding observedFrom
 observed-spelled chosen context m program call rest = refl

@@ -14,6 +14,7 @@ use Rattle.machine.specs.Machine.{fieldOf, noProgram}
 use Rattle.machine.specs.Calls.{callOf}
 use Rattle.machine.specs.declared.record.Machine.{Machine}
 use Rattle.machine.specs.declared.record.Answered.{Answered}
+use Rattle.machine.specs.declared.record.Report.{Report}
 use Rattle.machine.specs.declared.record.Call.{Call}
 use Rattle.image.specs.Bytes.{Bytes}
 use Rattle.image.specs.Load.{loadOf}
@@ -47,9 +48,11 @@ rightsBelow (suc page) context m =
 unfoldable pub rightsOf : ℕ → Machine → List ℕ
 rightsOf context m = rightsBelow (m .pages) context m
 
--- RULES 4.8: what a call shows the chosen program: the number, and the rights that its global context sees before and after the call
+-- RULES 4.8: what a call shows the chosen program: the number, the domain that is named or that there is none, and the rights that its global context sees
+-- before and after the call
 pub record Observation : Type 0 where
   pub number : ℕ
+  pub report : Report
   pub before : List ℕ
   pub after : List ℕ
 
@@ -58,6 +61,7 @@ abbrev pub observation : ℕ → Machine → Answered → Observation
 observation context m answered =
     record {
       number = answered .number;
+      report = answered .report;
       before = rightsOf context m;
       after = rightsOf context (answered .machine);
     }

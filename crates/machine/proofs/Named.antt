@@ -1,31 +1,25 @@
 -- Through which domain an access goes (RULES 1.17, 2.13, 3.3): where a domain is named and where none, which one it is, and of two bytes whose. By the
--- conditions of an accepted access, which are not met, and the law of the giving domain; and a computed table of what accesses name.
+-- conditions of an accepted access, which are not met, and the law of the giving domain.
 use Prim.Native.Nat.{ℕ, _^_, _/_, _<_}
-use mathlib.Core.Path.{_≡_, refl, ap, sym, _∙_}
+use mathlib.Core.Path.{_≡_, refl, ap, sym}
 use mathlib.Core.Bool.{Bool, true, false, not, _&&_, true≢false}
-use mathlib.Core.List.{List, [], _∷_, _++_, map}
-use mathlib.Core.Logic.{_⊎_, inl, inr, ⊎-elim}
+use mathlib.Core.Logic.{inl, inr, ⊎-elim}
 use borrow.Author.Tests.{eqb-true}
 use native.Mathlib.Omega.{arith}
-use lib.Bits.{bitAnd, and-le-l}
-use lib.Count.{trailingZeros}
+use lib.Bits.{and-le-l}
 use lib.Dec.{eqb}
-use lib.ListN.{replicate}
 use Rattle.rules.specs.Registers.{localContext}
 use Rattle.rules.specs.Domains.{holds, givingDomain}
 use Rattle.rules.specs.Refusals.{pick}
-use Rattle.rules.specs.declared.registers.Mode.the-variants.{User, Privileged}
-use Rattle.rules.specs.declared.registers.Registers.{Registers}
 use Rattle.rules.proofs.Lowest.{giving-lowest}
-use Rattle.machine.specs.Machine.{isSound, fieldOf}
-use Rattle.machine.specs.Calls.{callOf, checksOf, accessChecks, effectOf, after, asDomain, inPrivilegedMode, inUserMode, isDenied, handedOut, numberOf, reportOf}
+use Rattle.machine.specs.Machine.{fieldOf}
+use Rattle.machine.specs.Calls.{asDomain, callOf, inPrivilegedMode, inUserMode, handedOut, numberOf, reportOf}
 use Rattle.machine.specs.declared.record.Machine.{Machine}
 use Rattle.machine.specs.declared.record.Domain.{Domain}
 use Rattle.machine.specs.declared.record.LastViolation.{LastViolation}
 use Rattle.machine.specs.declared.record.LastViolation.the-variants.{Absent, Was}
 use Rattle.machine.specs.declared.record.Report.{Report}
 use Rattle.machine.specs.declared.record.Report.the-variants.{Nothing, Denied, Through}
-use Rattle.machine.specs.declared.record.Answered.{Answered}
 use Rattle.machine.specs.declared.record.Width.{Width}
 use Rattle.machine.specs.declared.record.Width.the-variants.{One, Two}
 use Rattle.machine.specs.declared.record.Call.{Call}
@@ -33,7 +27,6 @@ use Rattle.machine.specs.declared.record.Call.the-variants.{Access, Gran
 use Rattle.machine.proofs.Answers.{accepted}
 use Rattle.machine.proofs.Allowed.{Allowed, allowed, allows, user-allowed}
 use Rattle.machine.proofs.Touched.{Touches, first-touched}
-use Rattle.machine.proofs.Written.{stored, live, denied, holding, gives}
 
 -- a report names a domain
 abbrev pub names : Report → Bool
@@ -143,30 +136,3 @@ named-first m right address two = rw (two, allows m One right address (accepted 
           paged = λ byte t. a .paged byte (within t);
           by-virtue = ⊎-elim (λ privileged. inl privileged) (λ user. inr (user .0, user .1, λ byte t. user .2 byte (within t))) (a .by-virtue);
         }
-
--- ---- computed: two pages of 32 bytes whose fields share other domains with the local context, 3 and 7 to 15, than with the global context or the mask alone
-
-abbrev node : Registers → Machine
-node registers =
-    holding (denied 0 1 63) 2 5 (0x0A36 ∷ 0x9050 ∷ 0x8C81 ∷ 0x0018 ∷ replicate 252 0xFFFF) registers 0 (replicate 8 false) 1 0
-    (replicate 8 (stored 0xFFFF 0xFFFF User))
-
-abbrev through-at : Registers → ℕ → Answered
-through-at registers s = record { number = 0; machine = node registers; report = Through (record { 0 = s }) }
-
-pub domains-named :
-    let user = live 0xFFE8 0xFF9C User false in
-    let high = live 0xFFE8 0xF000 User false in
-    let privileged = live 0xFFE8 0xFF9C Privileged false in
-    let pending = live 0xFFE8 0xFF9C User true in
-    (map (callOf (node user))
-    (Access One 0 0 ∷ Access One 0 31 ∷ Access One 1 0 ∷ Access One 0 32 ∷ Access One 0 63 ∷ Access One 1 40
-    ∷ Access Two 0 30 ∷ Access Two 0 31 ∷ Access Two 1 31 ∷ Access Two 0 32 ∷ Access Two 1 62 ∷ [])
-    ≡ map (through-at user) (9 ∷ 9 ∷ 12 ∷ 7 ∷ 7 ∷ 3 ∷ 9 ∷ 9 ∷ 12 ∷ 7 ∷ 3 ∷ []))
-    × (map (callOf (node high)) (Access One 1 5 ∷ Access One 0 40 ∷ Access Two 1 5 ∷ []) ≡ map (through-at high) (12 ∷ 15 ∷ 12 ∷ []))
-    × (map (λ (call : Call). callOf (node high) call .report) (Access One 0 5 ∷ Access One 1 40 ∷ Access Two 0 31 ∷ Access Two 1 31 ∷ []) ≡ replicate 4 Nothing)
-    × (map (callOf (node user)) (Access One 2 0 ∷ Access Two 0 63 ∷ Access One 1 64 ∷ []) ≡ gives 2 (node user) ∷ gives 3 (node user) ∷ gives 3 (node user) ∷ [])
-    × (map (callOf (node privileged)) (Access One 0 0 ∷ Access One 1 40 ∷ Access Two 0 31 ∷ []) ≡ replicate 3 (gives 0 (node privileged)))
-    × (map (callOf (node pending)) (Access One 0 0 ∷ Access Two 0 31 ∷ []) ≡ replicate 2 (gives 8 (node pending)))
-unfolding callOf checksOf accessChecks effectOf after isSound givingDomain trailingZeros
-domains-named = (refl, refl, refl, refl, refl, refl)

@@ -8,7 +8,7 @@ use mathlib.Core.List.{List, [], _∷_, _++_, map}
 use lib.Count.{trailingZeros}
 use lib.Dec.{eqb}
 use lib.ListN.{replicate}
-use Rattle.rules.specs.Domains.{domainBit, prevailing}
+use Rattle.rules.specs.Domains.{domainBit, prevailing, givingDomain}
 use Rattle.rules.specs.declared.registers.Mode.{Mode}
 use Rattle.rules.specs.declared.registers.Mode.the-variants.{User, Privileged}
 use Rattle.rules.specs.declared.registers.Registers.{Registers}
@@ -21,12 +21,12 @@ use Rattle.machine.specs.declared.record.Page.{Page}
 use Rattle.machine.specs.declared.record.Domain.{Domain}
 use Rattle.machine.specs.declared.record.LastViolation.{LastViolation}
 use Rattle.machine.specs.declared.record.LastViolation.the-variants.{Absent}
-use Rattle.machine.specs.declared.record.Report.the-variants.{Nothing, Denied}
+use Rattle.machine.specs.declared.record.Report.the-variants.{Nothing, Denied, Through}
 use Rattle.machine.specs.declared.record.Answered.{Answered}
 use Rattle.machine.specs.declared.record.Width.the-variants.{One, Two}
 use Rattle.machine.specs.declared.record.Call.{Call}
 use Rattle.machine.specs.declared.record.Call.the-variants.{Access, Grant, Revoke, SetMask, Enter, Return, Switch, StoreField, StoreContext, StoreMask, StoreMode, AskViolation}
-use Rattle.machine.proofs.Written.{stored, live, denied, holding, whole, gives, Answers, both}
+use Rattle.machine.proofs.Written.{stored, live, denied, holding, whole, gives, goesThrough, Answers, both}
 
 -- "every number is zero, every mode user and the flag clear": 256 fields, eight places on the stack, eight entries in the table
 pub all-zero :
@@ -127,7 +127,7 @@ pub last-page-order :
 unfolding callOf checksOf accessChecks changeChecks isSound prevailing domainBit trailingZeros
 last-page-order = (refl, refl, refl, refl)
 
--- a machine, a call that is made on it, and the number and the machine after it; nothing is reported
+-- a machine, a call that is made on it that reports nothing, and the number and the machine after it
 abbrev Outcomes : (Machine → Call → Answered) → List (Machine × Call × ℕ × Machine) → Type 0
 Outcomes made rows = map (λ row. made (row .0) (row .1)) rows ≡ map (λ row. gives (row .2) (row .3)) rows
 
@@ -155,6 +155,31 @@ pub last-page-outcomes :
     ∷ [])
 unfolding callOf checksOf accessChecks changeChecks effectOf after isSound prevailing domainBit trailingZeros
 last-page-outcomes = refl
+
+-- ---- what accesses name: two pages of 32 bytes whose fields share other domains with the local context, 3 and 7 to 15, than with the global context or the
+-- mask alone
+
+abbrev shared : Registers → Machine
+shared registers =
+    holding (denied 0 1 63) 2 5 (0x0A36 ∷ 0x9050 ∷ 0x8C81 ∷ 0x0018 ∷ replicate 252 0xFFFF) registers 0 (replicate 8 false) 1 0
+    (replicate 8 (stored 0xFFFF 0xFFFF User))
+
+pub domains-named :
+    let user = live 0xFFE8 0xFF9C User false in
+    let high = live 0xFFE8 0xF000 User false in
+    let privileged = live 0xFFE8 0xFF9C Privileged false in
+    let pending = live 0xFFE8 0xFF9C User true in
+    (map (callOf (shared user))
+    (Access One 0 0 ∷ Access One 0 31 ∷ Access One 1 0 ∷ Access One 0 32 ∷ Access One 0 63 ∷ Access One 1 40
+    ∷ Access Two 0 30 ∷ Access Two 0 31 ∷ Access Two 1 31 ∷ Access Two 0 32 ∷ Access Two 1 62 ∷ [])
+    ≡ map (λ (s : ℕ). goesThrough s (shared user)) (9 ∷ 9 ∷ 12 ∷ 7 ∷ 7 ∷ 3 ∷ 9 ∷ 9 ∷ 12 ∷ 7 ∷ 3 ∷ []))
+    × (map (callOf (shared high)) (Access One 1 5 ∷ Access One 0 40 ∷ Access Two 1 5 ∷ []) ≡ map (λ (s : ℕ). goesThrough s (shared high)) (12 ∷ 15 ∷ 12 ∷ []))
+    × (map (λ (call : Call). callOf (shared high) call .report) (Access One 0 5 ∷ Access One 1 40 ∷ Access Two 0 31 ∷ Access Two 1 31 ∷ []) ≡ replicate 4 Nothing)
+    × (map (callOf (shared user)) (Access One 2 0 ∷ Access Two 0 63 ∷ Access One 1 64 ∷ []) ≡ gives 2 (shared user) ∷ gives 3 (shared user) ∷ gives 3 (shared user) ∷ [])
+    × (map (callOf (shared privileged)) (Access One 0 0 ∷ Access One 1 40 ∷ Access Two 0 31 ∷ []) ≡ replicate 3 (gives 0 (shared privileged)))
+    × (map (callOf (shared pending)) (Access One 0 0 ∷ Access Two 0 31 ∷ []) ≡ replicate 2 (gives 8 (shared pending)))
+unfolding callOf checksOf accessChecks effectOf after isSound givingDomain trailingZeros
+domains-named = (refl, refl, refl, refl, refl, refl)
 
 -- the last program and the last stack place, of a machine whose every part differs from zero
 abbrev kernel : List ℕ → Registers → ℕ → List Bool → ℕ → List Program → Machine

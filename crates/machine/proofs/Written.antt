@@ -10,7 +10,7 @@ use Rattle.machine.specs.declared.record.Machine.{Machine}
 use Rattle.machine.specs.declared.record.Program.{Program}
 use Rattle.machine.specs.declared.record.LastViolation.{LastViolation}
 use Rattle.machine.specs.declared.record.LastViolation.the-variants.{Absent, Was}
-use Rattle.machine.specs.declared.record.Report.the-variants.{Nothing}
+use Rattle.machine.specs.declared.record.Report.the-variants.{Nothing, Through}
 use Rattle.machine.specs.declared.record.Answered.{Answered}
 use Rattle.machine.specs.declared.record.Call.{Call}
 use Rattle.machine.specs.declared.record.Call.the-variants.{Grant, Revoke}
@@ -48,6 +48,10 @@ whole = holding Absent
 -- an answer that reports nothing, written out beside the definition `silent`
 abbrev pub gives : ℕ → Machine → Answered
 gives number machine = record { number = number; machine = machine; report = Nothing }
+
+-- the answer of an access that is allowed through a domain
+abbrev pub goesThrough : ℕ → Machine → Answered
+goesThrough s machine = record { number = 0; machine = machine; report = Through (record { 0 = s }) }
 
 -- what calls on a machine answer, each by itself
 abbrev pub Answers : (Machine → Call → Answered) → Machine → List (Call × ℕ) → Type 0
