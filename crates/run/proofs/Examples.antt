@@ -13,7 +13,7 @@ use Rattle.machine.specs.Calls.{asPage, asDomain, callOf, checksOf, accessCheck
 use Rattle.machine.specs.declared.record.Width.the-variants.{One, Two}
 use Rattle.machine.specs.declared.record.Call.the-variants.{Access, Grant, Revoke, SetMask, Enter, Return, Switch, StoreField, StoreContext, StoreMask, StoreMode, AskViolation}
 use Rattle.run.specs.Records.{callOfKind, callsOf, stepBy}
-use Rattle.run.specs.Run.{answersFrom, answersOf, callAnswers, sent}
+use Rattle.run.specs.Run.{stepsFrom, answersOf, callAnswers, sent}
 use Rattle.run.specs.declared.records.Decoded.the-variants.{Known, Unknown}
 
 -- a record of a kind, with right 1, A = 0x0203 and B = 0x0405
@@ -60,12 +60,12 @@ sampleInput =
 
 -- RULES 6.11: its answers
 pub sample-answered : answersOf sampleInput ≡ 0 ∷ 0 ∷ 9 ∷ 8 ∷ 0 ∷ 0 ∷ 0 ∷ 0 ∷ 9 ∷ []
-unfolding sampleInput sampleBytes callAnswers answersFrom callsOf callOfKind stepBy loadOf loadChecks lengthTests kindTests shapeEntryTests shapeTests bodyTests describe machineOf callOf checksOf accessChecks changeChecks effectOf entered returned switched after isSound prevailing domainBit trailingZeros
+unfolding sampleInput sampleBytes callAnswers stepsFrom callsOf callOfKind stepBy loadOf loadChecks lengthTests kindTests shapeEntryTests shapeTests bodyTests describe machineOf callOf checksOf accessChecks changeChecks effectOf entered returned switched after isSound prevailing domainBit trailingZeros
 sample-answered = refl
 
 -- RULES 6.9: a remainder has no answer
 pub remainder-answered : answersOf (sampleInput ++ 0x01 ∷ []) ≡ 0 ∷ 0 ∷ 9 ∷ 8 ∷ 0 ∷ 0 ∷ 0 ∷ 0 ∷ 9 ∷ []
-unfolding sampleInput sampleBytes callAnswers answersFrom callsOf callOfKind stepBy loadOf loadChecks lengthTests kindTests shapeEntryTests shapeTests bodyTests describe machineOf callOf checksOf accessChecks changeChecks effectOf entered returned switched after isSound prevailing domainBit trailingZeros
+unfolding sampleInput sampleBytes callAnswers stepsFrom callsOf callOfKind stepBy loadOf loadChecks lengthTests kindTests shapeEntryTests shapeTests bodyTests describe machineOf callOf checksOf accessChecks changeChecks effectOf entered returned switched after isSound prevailing domainBit trailingZeros
 remainder-answered = refl
 
 -- RULES 6.6: an unknown record leaves the machine alone, so that the access after it is allowed. RULES 6.2, 6.3, 6.8: a declared length of
@@ -79,7 +79,7 @@ pub ends-answered :
     ∷ []
     ∷ [])
     ≡ (0 ∷ 18 ∷ 0 ∷ []) ∷ (0 ∷ []) ∷ (24 ∷ []) ∷ (20 ∷ []) ∷ (20 ∷ []) ∷ []
-unfolding sampleBytes callAnswers answersFrom callsOf callOfKind stepBy loadOf loadChecks lengthTests kindTests shapeEntryTests shapeTests bodyTests describe machineOf callOf checksOf accessChecks changeChecks effectOf entered returned switched after isSound prevailing domainBit trailingZeros
+unfolding sampleBytes callAnswers stepsFrom callsOf callOfKind stepBy loadOf loadChecks lengthTests kindTests shapeEntryTests shapeTests bodyTests describe machineOf callOf checksOf accessChecks changeChecks effectOf entered returned switched after isSound prevailing domainBit trailingZeros
 ends-answered = refl
 
 -- RULES 7.4: the sample's nine answers in buffers about as long

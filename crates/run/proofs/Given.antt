@@ -14,7 +14,7 @@ use Rattle.machine.specs.declared.record.Machine.{Machine}
 use Rattle.machine.proofs.Laws.{sound-number}
 use Rattle.image.proofs.Loaded.{loaded}
 use Rattle.run.specs.Records.{callsOf, stepBy, stepOf}
-use Rattle.run.specs.Run.{imageOf, callBytes, answersFrom, callAnswers, loadedOf}
+use Rattle.run.specs.Run.{imageOf, callBytes, stepsFrom, answersFrom, callAnswers, loadedOf}
 use Rattle.run.proofs.Steps.{step-sound}
 use Rattle.run.specs.declared.records.Decoded.{Decoded}
 use Rattle.run.specs.declared.records.Decoded.the-variants.{Known, Unknown}
@@ -29,7 +29,7 @@ step-given m (Known call) s = either (eqb (callOf m call .number) 18) (isIn (cal
 step-given m Unknown s = refl
 
 from-given : (m : Machine) (calls : List Decoded) (i : ℕ) → isSound m ≡ true → isIn (getD (answersFrom m calls) i 0) (18 ∷ soundNumbers) ≡ true
-unfolding answersFrom
+unfolding stepsFrom
 from-given m [] zero s = refl
 from-given m [] (suc i) s = refl
 from-given m (call ∷ rest) zero s = step-given m call s

@@ -15,7 +15,7 @@ use Rattle.machine.specs.declared.record.Width.the-variants.{One, Two}
 use Rattle.machine.specs.declared.record.Call.{Call}
 use Rattle.machine.specs.declared.record.Call.the-variants.{Access, Grant, Revoke, SetMask, Enter, Return, Switch, StoreField, StoreContext, StoreMask, StoreMode, AskViolation}
 use Rattle.run.specs.Records.{callOfKind, callsOf, stepBy, uncheckedStepOf}
-use Rattle.run.specs.Run.{answersFrom, callAnswers, loadedOf, sent}
+use Rattle.run.specs.Run.{stepsFrom, answersFrom, callAnswers, loadedOf, sent}
 use Rattle.run.specs.declared.records.Decoded.{Decoded}
 use Rattle.run.specs.declared.records.Decoded.the-variants.{Known, Unknown}
 
@@ -59,5 +59,5 @@ pub run-spelled : (input : List ℕ) (room : ℕ) (m : Machine) (call : Call) (r
     × (answersFrom m [] ≡ [])
     × (uncheckedStepOf m (Known call) ≡ uncheckedOf m call)
     × (uncheckedStepOf m Unknown ≡ record { number = 18; machine = m; report = Nothing })
-unfolding sent callAnswers answersFrom stepBy
+unfolding sent callAnswers stepsFrom stepBy
 run-spelled input room m call rest = (refl, refl, refl, refl, refl, refl, refl)

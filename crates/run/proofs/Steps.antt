@@ -8,7 +8,7 @@ use native.Mathlib.Numerals.{add-one}
 use native.Mathlib.Omega.{arith}
 use borrow.Author.Tests.{eqb-true, eqb-false}
 use lib.Dec.{eqb}
-use lib.ListN.{length, getD, set, drop, length-drop, List·getD-eq-default}
+use lib.ListN.{length, getD, set, drop, length-drop, length-map, List·getD-eq-default}
 use lib.Seq.{getD-drop, drop-drop, sets}
 use Rattle.image.specs.Bytes.{wordOf}
 use Rattle.machine.specs.Machine.{isSound, withLent}
@@ -20,7 +20,7 @@ use Rattle.machine.proofs.Answers.{sound-unchecked}
 use Rattle.machine.proofs.LentParts.{Lent}
 use Rattle.machine.proofs.Laws.{soundness-kept}
 use Rattle.run.specs.Records.{kinds, callOfKind, callsOf, stepBy, stepOf, uncheckedStepOf}
-use Rattle.run.specs.Run.{answersFrom}
+use Rattle.run.specs.Run.{stepsFrom, answersFrom, reportsFrom}
 use Rattle.run.specs.declared.records.Decoded.{Decoded}
 use Rattle.run.specs.declared.records.Decoded.the-variants.{Known, Unknown}
 
@@ -75,7 +75,7 @@ no-record (k ∷ r ∷ a ∷ a′ ∷ []) h = refl
 no-record (k ∷ r ∷ a ∷ a′ ∷ b ∷ []) h = refl
 no-record (k ∷ r ∷ a ∷ a′ ∷ b ∷ b′ ∷ rest) h = absurd (omega arith)
 
--- one call for every six bytes, and one answer for every call
+-- one call for every six bytes, one step for every call, and one answer for every step
 pub count-calls : (l : List ℕ) → length (callsOf l) ≡ length l / 6
 unfolding callsOf
 count-calls [] = refl
@@ -86,10 +86,16 @@ count-calls (k ∷ r ∷ a ∷ a′ ∷ []) = refl
 count-calls (k ∷ r ∷ a ∷ a′ ∷ b ∷ []) = refl
 count-calls (k ∷ r ∷ a ∷ a′ ∷ b ∷ b′ ∷ rest) = let more = count-calls rest in omega arith
 
+pub count-steps : (m : Machine) (calls : List Decoded) → length (stepsFrom m calls) ≡ length calls
+unfolding stepsFrom
+count-steps m [] = refl
+count-steps m (call ∷ rest) = let more = count-steps (stepOf m call .machine) rest in omega arith
+
 pub count-answers : (m : Machine) (calls : List Decoded) → length (answersFrom m calls) ≡ length calls
-unfolding answersFrom
-count-answers m [] = refl
-count-answers m (call ∷ rest) = let more = count-answers (stepOf m call .machine) rest in omega arith
+count-answers m calls = length-map (stepsFrom m calls) _ ∙ count-steps m calls
+
+pub count-reports : (m : Machine) (calls : List Decoded) → length (reportsFrom m calls) ≡ length calls
+count-reports m calls = length-map (stepsFrom m calls) _ ∙ count-steps m calls
 
 -- a step hands back a sound machine where it was handed one
 pub step-sound : (m : Machine) (call : Decoded) → isSound m ≡ true → isSound (stepOf m call .machine) ≡ true
@@ -108,14 +114,17 @@ pub whole : (own : Machine) {fields : List ℕ} {saved : List Bool} {r s : Answe
     → saved ≡ s .machine .saved → _≡_ {A = Answered} (record { number = r .number; machine = withLent fields saved (r .machine); report = r .report }) s
 whole own e f g = rw (e, f, g)
 
--- a turn of the loop over the calls: the answer of the record at a place, stored, and the answers of the calls past it, stored behind it,
--- are the answers of the calls from that place on
-pub turn : (input answers : List ℕ) (m : Machine) (at i : ℕ) {r : Answered} → at + 6 ≤ length input
+-- the step of the record at a place, and those of the records past it on the machine that it gives back, are the steps from that place on
+pub next-step : (input : List ℕ) (m : Machine) (at : ℕ) {r : Answered} → at + 6 ≤ length input
     → r
     ≡ stepOf m
     (callOfKind (getD input at 0) (getD input (at + 1) 0) (wordOf (getD input (at + 2) 0) (getD input (at + 3) 0))
     (wordOf (getD input (at + 4) 0) (getD input (at + 5) 0)))
-    → sets (set answers i (r .number)) (i + 1) (answersFrom (r .machine) (callsOf (drop (at + 6) input)))
-    ≡ sets answers i (answersFrom m (callsOf (drop at input)))
-unfolding answersFrom
-turn input answers m at i h e = rw (add-one, next-record input at h, e)
+    → stepsFrom m (callsOf (drop at input)) ≡ r ∷ stepsFrom (r .machine) (callsOf (drop (at + 6) input))
+unfolding stepsFrom
+next-step input m at h e = rw (next-record input at h, e)
+
+-- a turn of the loop over the calls, for each buffer that it stores in: the first of a list stored at a place, and the rest behind it, are the whole list
+-- from that place on
+pub turn : (buffer : List ℕ) (i first : ℕ) {rest all : List ℕ} → all ≡ first ∷ rest → sets (set buffer i first) (i + 1) rest ≡ sets buffer i all
+turn buffer i first e = rw (add-one, e)

@@ -46,10 +46,11 @@ fn load_input(input: &[u8], end: usize) -> Answered
 fn name_of(report: Report) -> u32
     ensures { λ r. ⌜ r ≡ nameOf report ⌝ }
 {
-    let Report::Through(domain) = report else {
-        return 0;
-    };
-    1 + domain.0 as u32
+    match report {
+        Report::Nothing => 0,
+        Report::Denied(_) => 0,
+        Report::Through(domain) => 1 + domain.0 as u32,
+    }
 }
 
 // What a report names, stored at a place of a lent buffer of names; past its end nothing is stored, so that who wants no names lends no places.
