@@ -4,16 +4,17 @@ use mathlib.Core.Path.{_≡_, refl, ap}
 use mathlib.Core.List.{List, [], _∷_, _++_, map}
 use lib.Count.{trailingZeros}
 use lib.ListN.{length, drop, replicate}
-use Rattle.rules.specs.Domains.{domainBit, prevailing}
+use Rattle.rules.specs.Domains.{domainBit, prevailing, givingDomain}
 use Rattle.image.specs.Description.{machineOf}
 use Rattle.image.specs.Load.{loadOf, loadChecks, lengthTests, kindTests, shapeEntryTests, shapeTests, bodyTests, describe}
 use Rattle.image.specs.Sample.{sampleBytes}
 use Rattle.machine.specs.Machine.{isSound}
 use Rattle.machine.specs.Calls.{asPage, asDomain, callOf, checksOf, accessChecks, changeChecks, effectOf, entered, returned, switched, after}
+use Rattle.machine.specs.declared.record.Report.the-variants.{Nothing, Through}
 use Rattle.machine.specs.declared.record.Width.the-variants.{One, Two}
 use Rattle.machine.specs.declared.record.Call.the-variants.{Access, Grant, Revoke, SetMask, Enter, Return, Switch, StoreField, StoreContext, StoreMask, StoreMode, AskViolation}
 use Rattle.run.specs.Records.{callOfKind, callsOf, stepBy}
-use Rattle.run.specs.Run.{stepsFrom, answersOf, callAnswers, sent}
+use Rattle.run.specs.Run.{stepsFrom, answersOf, callAnswers, callReports, sent}
 use Rattle.run.specs.declared.records.Decoded.the-variants.{Known, Unknown}
 
 -- a record of a kind, with right 1, A = 0x0203 and B = 0x0405
@@ -63,10 +64,16 @@ pub sample-answered : answersOf sampleInput ≡ 0 ∷ 0 ∷ 9 ∷ 8 ∷ 0 ∷ 0 
 unfolding sampleInput sampleBytes callAnswers stepsFrom callsOf callOfKind stepBy loadOf loadChecks lengthTests kindTests shapeEntryTests shapeTests bodyTests describe machineOf callOf checksOf accessChecks changeChecks effectOf entered returned switched after isSound prevailing domainBit trailingZeros
 sample-answered = refl
 
--- RULES 6.9: a remainder has no answer
-pub remainder-answered : answersOf (sampleInput ++ 0x01 ∷ []) ≡ 0 ∷ 0 ∷ 9 ∷ 8 ∷ 0 ∷ 0 ∷ 0 ∷ 0 ∷ 9 ∷ []
-unfolding sampleInput sampleBytes callAnswers stepsFrom callsOf callOfKind stepBy loadOf loadChecks lengthTests kindTests shapeEntryTests shapeTests bodyTests describe machineOf callOf checksOf accessChecks changeChecks effectOf entered returned switched after isSound prevailing domainBit trailingZeros
-remainder-answered = refl
+-- RULES 6.11: what it reports: the first access goes through domain 0, the seventh record's through domain 3
+pub sample-reported : callReports sampleInput
+    ≡ Through (asDomain 0) ∷ Nothing ∷ Nothing ∷ Nothing ∷ Nothing ∷ Nothing ∷ Through (asDomain 3) ∷ Nothing ∷ []
+unfolding sampleInput sampleBytes callReports stepsFrom callsOf callOfKind stepBy loadOf loadChecks lengthTests kindTests shapeEntryTests shapeTests bodyTests describe machineOf callOf checksOf accessChecks changeChecks effectOf entered returned switched after isSound prevailing givingDomain domainBit trailingZeros
+sample-reported = refl
+
+-- RULES 6.9: a remainder has no answer, and reports nothing
+pub remainder-answered : (answersOf (sampleInput ++ 0x01 ∷ []) ≡ 0 ∷ 0 ∷ 9 ∷ 8 ∷ 0 ∷ 0 ∷ 0 ∷ 0 ∷ 9 ∷ []) × (callReports (sampleInput ++ 0x01 ∷ []) ≡ callReports sampleInput)
+unfolding sampleInput sampleBytes callAnswers callReports stepsFrom callsOf callOfKind stepBy loadOf loadChecks lengthTests kindTests shapeEntryTests shapeTests bodyTests describe machineOf callOf checksOf accessChecks changeChecks effectOf entered returned switched after isSound prevailing givingDomain domainBit trailingZeros
+remainder-answered = (refl, refl)
 
 -- RULES 6.6: an unknown record leaves the machine alone, so that the access after it is allowed. RULES 6.2, 6.3, 6.8: a declared length of
 -- one byte more and of one byte less than the image has, and inputs of 1 byte and of none.

@@ -6,7 +6,7 @@ use mathlib.Core.Bool.{Bool, true, false}
 use mathlib.Core.List.{List, [], _∷_, _++_, map}
 use lib.Count.{trailingZeros}
 use lib.ListN.{length, replicate, set}
-use Rattle.rules.specs.Domains.{domainBit, prevailing}
+use Rattle.rules.specs.Domains.{domainBit, prevailing, givingDomain}
 use Rattle.rules.specs.declared.registers.Mode.{Mode}
 use Rattle.rules.specs.declared.registers.Mode.the-variants.{User, Privileged}
 use Rattle.image.specs.Description.{machineOf}
@@ -15,12 +15,14 @@ use Rattle.image.specs.Sample.{sampleBytes}
 use Rattle.image.proofs.Pinned.{long-bytes}
 use Rattle.machine.specs.Machine.{isSound, withLast}
 use Rattle.machine.specs.Calls.{callOf, uncheckedOf, checksOf, accessChecks, changeChecks, effectOf, entered, returned, switched, after}
+use Rattle.machine.specs.declared.record.Report.{Report}
+use Rattle.machine.specs.declared.record.Report.the-variants.{Nothing, Denied, Through}
 use Rattle.machine.specs.declared.record.Machine.{Machine}
 use Rattle.machine.specs.declared.record.Width.the-variants.{One, Two}
 use Rattle.machine.specs.declared.record.Call.the-variants.{Access, Grant, Revoke, SetMask, Enter, Return, Switch, StoreField, StoreContext, StoreMask, StoreMode, AskViolation}
 use Rattle.machine.proofs.Written.{stored, live, denied, whole, gives}
 use Rattle.run.specs.Records.{callOfKind, callsOf, stepBy, stepOf, uncheckedStepOf}
-use Rattle.run.specs.Run.{stepsFrom, answersOf, callAnswers, callBytes, imageOf, isLong, sent}
+use Rattle.run.specs.Run.{stepsFrom, answersOf, callAnswers, callReports, callBytes, imageOf, isLong, nameOf, sent, sentReports}
 use Rattle.run.specs.declared.records.Decoded.the-variants.{Known, Unknown}
 
 -- a right above 1 is read as it stands, every part that a call does not use is passed over, and no kind past 13 is known
@@ -127,6 +129,42 @@ pub two-bytes-run :
     ≡ 0 ∷ 0 ∷ 0 ∷ 0 ∷ 2 ∷ 3 ∷ 9 ∷ 8 ∷ 0 ∷ 0 ∷ 3 ∷ 3 ∷ []
 unfolding sampleBytes callAnswers stepsFrom callsOf callOfKind stepBy loadOf loadChecks lengthTests kindTests shapeEntryTests shapeTests bodyTests describe machineOf callOf checksOf accessChecks effectOf entered after isSound
 two-bytes-run = refl
+
+-- what a run on the sample reports: accesses of one byte and of two that go through domains 0 and 1; a grant, an unknown record, a violation and an access
+-- after it, an entry and an access in privileged mode, which name none; the question, which hands out the violation; and after a return and another mask the
+-- same access through the domain that was granted. It is sent with the answers where these fit, and is none after a refused load.
+pub reports-run :
+    let input : List ℕ =
+    0x00 ∷ 0x2C ∷ (sampleBytes
+    ++ (0x01 ∷ 0x00 ∷ 0x00 ∷ 0x00 ∷ 0x00 ∷ 0x10
+    ∷ 0x0D ∷ 0x00 ∷ 0x00 ∷ 0x00 ∷ 0x00 ∷ 0xFF
+    ∷ 0x0D ∷ 0x00 ∷ 0x00 ∷ 0x00 ∷ 0x01 ∷ 0x00
+    ∷ 0x01 ∷ 0x01 ∷ 0x00 ∷ 0x00 ∷ 0x01 ∷ 0x00
+    ∷ 0x02 ∷ 0x00 ∷ 0x00 ∷ 0x00 ∷ 0x00 ∷ 0x01
+    ∷ 0x0E ∷ 0x00 ∷ 0x00 ∷ 0x00 ∷ 0x00 ∷ 0x00
+    ∷ 0x01 ∷ 0x01 ∷ 0x00 ∷ 0x00 ∷ 0x00 ∷ 0x00
+    ∷ 0x01 ∷ 0x00 ∷ 0x00 ∷ 0x00 ∷ 0x00 ∷ 0x10
+    ∷ 0x05 ∷ 0x00 ∷ 0x00 ∷ 0x00 ∷ 0x00 ∷ 0x00
+    ∷ 0x01 ∷ 0x00 ∷ 0x00 ∷ 0x00 ∷ 0x00 ∷ 0x10
+    ∷ 0x0C ∷ 0x00 ∷ 0x00 ∷ 0x00 ∷ 0x00 ∷ 0x00
+    ∷ 0x06 ∷ 0x00 ∷ 0x00 ∷ 0x00 ∷ 0x00 ∷ 0x00
+    ∷ 0x04 ∷ 0x00 ∷ 0x00 ∷ 0x00 ∷ 0x00 ∷ 0x06
+    ∷ 0x01 ∷ 0x00 ∷ 0x00 ∷ 0x00 ∷ 0x00 ∷ 0x10
+    ∷ []))
+    in
+    let goes : ℕ → Report = λ s. Through (record { 0 = s }) in
+    let reports : List Report =
+    goes 0 ∷ goes 0 ∷ goes 1 ∷ goes 1 ∷ Nothing ∷ Nothing ∷ Nothing ∷ Nothing ∷ Nothing ∷ Nothing
+    ∷ Denied (record { program = 0; right = 1; address = 0 }) ∷ Nothing ∷ Nothing ∷ goes 1 ∷ []
+    in
+    (callReports input ≡ reports)
+    × (map (sentReports input) (0 ∷ 14 ∷ 15 ∷ 16 ∷ []) ≡ [] ∷ [] ∷ reports ∷ reports ∷ [])
+    × (map nameOf reports ≡ 1 ∷ 1 ∷ 2 ∷ 2 ∷ 0 ∷ 0 ∷ 0 ∷ 0 ∷ 0 ∷ 0 ∷ 0 ∷ 0 ∷ 0 ∷ 2 ∷ [])
+    × (map nameOf (goes 9 ∷ goes 15 ∷ goes 65535 ∷ []) ≡ 10 ∷ 16 ∷ 65536 ∷ [])
+    × (callReports (0x00 ∷ 0x2C ∷ (set sampleBytes 38 2 ++ (0x05 ∷ 0x00 ∷ 0x00 ∷ 0x00 ∷ 0x00 ∷ 0x00 ∷ []))) ≡ [])
+    × (sentReports (replicate 32769 0) 9 ≡ [])
+unfolding sampleBytes callAnswers callReports sentReports stepsFrom callsOf callOfKind stepBy loadOf loadChecks lengthTests kindTests shapeEntryTests shapeTests bodyTests describe machineOf callOf checksOf accessChecks changeChecks effectOf entered returned switched after isSound prevailing givingDomain domainBit trailingZeros
+reports-run = (refl, refl, refl, refl, refl, refl)
 
 -- an image of 318 bytes, whose length stands in both bytes: program 0 is privileged
 pub long-run :

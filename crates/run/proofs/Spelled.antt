@@ -10,12 +10,15 @@ use Rattle.image.specs.Bytes.{wordAt}
 use Rattle.image.specs.Load.{loadOf}
 use Rattle.machine.specs.Calls.{callOf, uncheckedOf}
 use Rattle.machine.specs.declared.record.Machine.{Machine}
-use Rattle.machine.specs.declared.record.Report.the-variants.{Nothing}
+use Rattle.machine.specs.declared.record.Domain.{Domain}
+use Rattle.machine.specs.declared.record.Violation.{Violation}
+use Rattle.machine.specs.declared.record.Report.{Report}
+use Rattle.machine.specs.declared.record.Report.the-variants.{Nothing, Denied, Through}
 use Rattle.machine.specs.declared.record.Width.the-variants.{One, Two}
 use Rattle.machine.specs.declared.record.Call.{Call}
 use Rattle.machine.specs.declared.record.Call.the-variants.{Access, Grant, Revoke, SetMask, Enter, Return, Switch, StoreField, StoreContext, StoreMask, StoreMode, AskViolation}
 use Rattle.run.specs.Records.{callOfKind, callsOf, stepBy, uncheckedStepOf}
-use Rattle.run.specs.Run.{stepsFrom, answersFrom, callAnswers, loadedOf, sent}
+use Rattle.run.specs.Run.{stepsFrom, answersFrom, callAnswers, callReports, loadedOf, nameOf, reportsFrom, sent, sentReports}
 use Rattle.run.specs.declared.records.Decoded.{Decoded}
 use Rattle.run.specs.declared.records.Decoded.the-variants.{Known, Unknown}
 
@@ -47,17 +50,24 @@ pub records-spelled : (kind right a a′ b b′ : ℕ) (rest : List ℕ)
 unfolding callsOf
 records-spelled kind right a a′ b b′ rest = refl
 
--- the answers of any input and what is sent of them into any room
-pub run-spelled : (input : List ℕ) (room : ℕ) (m : Machine) (call : Call) (rest : List Decoded)
+-- the answers of any input and what is sent of them into any room, with what they report and how a name stands in a buffer
+pub run-spelled : (input : List ℕ) (room : ℕ) (m : Machine) (call : Call) (rest : List Decoded) (violation : Violation) (s : Domain)
     → let start = loadOf (take (wordAt input 0) (drop 2 input)) in
     let calls = drop (wordAt input 0) (drop 2 input) in
     let answers : List ℕ = start .number ∷ pick (eqb (start .number) 0) (answersFrom (start .machine) (callsOf calls)) [] in
+    let reports : List Report = pick (eqb (start .number) 0) (reportsFrom (start .machine) (callsOf calls)) [] in
     (loadedOf input ≡ start)
     × (sent input room ≡ pick (ltb 32768 (length input)) [] (pick (leb (length answers) room) answers []))
     × (answersFrom m (Known call ∷ rest) ≡ callOf m call .number ∷ answersFrom (callOf m call .machine) rest)
     × (answersFrom m (Unknown ∷ rest) ≡ 18 ∷ answersFrom m rest)
     × (answersFrom m [] ≡ [])
+    × (callReports input ≡ reports)
+    × (sentReports input room ≡ pick (ltb 32768 (length input)) [] (pick (leb (length answers) room) reports []))
+    × (reportsFrom m (Known call ∷ rest) ≡ callOf m call .report ∷ reportsFrom (callOf m call .machine) rest)
+    × (reportsFrom m (Unknown ∷ rest) ≡ Nothing ∷ reportsFrom m rest)
+    × (reportsFrom m [] ≡ [])
+    × (nameOf Nothing ∷ nameOf (Denied violation) ∷ nameOf (Through s) ∷ [] ≡ 0 ∷ 0 ∷ (s .0 + 1) ∷ [])
     × (uncheckedStepOf m (Known call) ≡ uncheckedOf m call)
     × (uncheckedStepOf m Unknown ≡ record { number = 18; machine = m; report = Nothing })
-unfolding sent callAnswers stepsFrom stepBy
-run-spelled input room m call rest = (refl, refl, refl, refl, refl, refl, refl)
+unfolding sent sentReports callAnswers callReports stepsFrom stepBy
+run-spelled input room m call rest violation s = (refl, refl, refl, refl, refl, refl, refl, refl, refl, refl, refl, refl, refl)

@@ -69,4 +69,4 @@ sentReports input room = pick (isLong input) [] (pick (leb (length (answersOf in
 abbrev pub nameOf : Report → ℕ
 nameOf Nothing = 0
 nameOf (Denied violation) = 0
-nameOf (Through s) = 1 + s .0
+nameOf (Through s) = s .0 + 1

@@ -49,7 +49,7 @@ fn name_of(report: Report) -> u32
     match report {
         Report::Nothing => 0,
         Report::Denied(_) => 0,
-        Report::Through(domain) => 1 + domain.0 as u32,
+        Report::Through(domain) => domain.0 as u32 + 1,
     }
 }
 

@@ -1,19 +1,22 @@
 -- The text of an input from its parts, and how long they are at the most.
-use Prim.Native.Nat.{ℕ, _+_, _-_, _*_, _%_, _≤_, min}
+use Prim.Native.Nat.{ℕ, suc, _+_, _-_, _*_, _%_, _≤_, min}
 use mathlib.Core.Path.{_≡_, refl, ap, _∙_}
 use mathlib.Core.Bool.{Bool, true, false}
-use mathlib.Core.List.{List, [], _∷_, _++_}
+use mathlib.Core.List.{List, [], _∷_, _++_, map}
+use native.Mathlib.Numerals.{add-one}
 use native.Mathlib.Omega.{arith}
 use borrow.Author.Tests.{le-ltb, le-leb, ltb-false}
 use lib.Dec.{eqb, leb}
-use lib.ListN.{length, getD, take, drop, length-append}
-use lib.Seq.{take-append-seam}
+use lib.ListN.{length, getD, take, drop, length-append, length-map}
+use lib.Seq.{sets, sets-eq, take-append-seam}
 use Rattle.rules.specs.Refusals.{pick}
 use Rattle.image.specs.Bytes.{wordAt}
 use Rattle.run.specs.Records.{callsOf}
-use Rattle.run.specs.Run.{answersFrom, answersOf, callAnswers, callBytes, isLong, loadedOf, sent}
-use Rattle.run.proofs.Sent.{answers-most, bytes-left}
-use Rattle.text.specs.Text.{letters, cutOf, linesFrom, loadLine, printed, runText, textOf}
+use Rattle.machine.specs.declared.record.Report.{Report}
+use Rattle.machine.specs.declared.record.Report.the-variants.{Nothing, Denied, Through}
+use Rattle.run.specs.Run.{answersFrom, answersOf, callAnswers, callBytes, callReports, isLong, loadedOf, nameOf, sent, sentReports}
+use Rattle.run.proofs.Sent.{answers-most, bytes-left, reports-count}
+use Rattle.text.specs.Text.{letters, cutOf, reportNamed, lineOf, linesFrom, loadLine, printed, runText, textOf}
 use Rattle.text.specs.Put.{Put}
 use Rattle.text.proofs.Puts.{decimal-most, line-most}
 
@@ -21,11 +24,12 @@ pub load-most : (number : ℕ) → length (loadLine number) ≤ 11
 unfolding loadLine
 load-most number = simp length-append (omega (arith, decimal-most number))
 
-pub lines-most : (i : ℕ) (answers : List ℕ) → length (linesFrom i answers) ≤ 12 * length answers
+pub lines-most : (i : ℕ) (answers : List ℕ) (reports : List Report) → length (linesFrom i answers reports) ≤ 18 * length answers
 unfolding linesFrom
-lines-most i [] = omega arith
-lines-most i (answer ∷ rest) =
-    simp length-append (omega (arith, line-most i answer, lines-most (i + 1) rest))
+lines-most i [] reports = omega arith
+lines-most i (answer ∷ rest) [] = simp length-append (omega (arith, line-most i answer Nothing, lines-most (i + 1) rest []))
+lines-most i (answer ∷ rest) (report ∷ reports) =
+    simp length-append (omega (arith, line-most i answer report, lines-most (i + 1) rest reports))
 
 -- an input of at most 32,768 bytes has at most 5,462 answers
 pub answers-fit : (input : List ℕ) → length input ≤ 32768 → length (answersOf input) ≤ 5462
@@ -46,21 +50,47 @@ front input entry {exit} {count} within long counted stored =
     let held : exit ≡ answersOf input ++ drop (length (answersOf input)) entry = rw all at stored in
     (size, rw (held, size) (take-append-seam (answersOf input) _), rw held)
 
--- the text from the answers, and from the bytes that the calls were read from
+-- and the names behind the first place are those of the reports, as many as there are answers of calls
+pub front-names : (input names : List ℕ) {names′ : List ℕ} {count : ℕ} → length input ≤ 32768 → length names ≡ 5462
+    → count ≡ length (answersOf input) → names′ ≡ sets names 1 (map nameOf (sentReports input 5462))
+    → (drop 1 (take count names′) ≡ map nameOf (callReports input)) × (length (take count names′) ≡ count)
+unfolding sentReports
+front-names input names {names′} {count} within long counted stored =
+    let all : sentReports input 5462 ≡ callReports input =
+    rw (le-ltb 32768 (length input) within, le-leb (length (answersOf input)) 5462 (answers-fit input within)) in
+    let many : length (map nameOf (callReports input)) ≡ length (callAnswers input) = length-map (callReports input) nameOf ∙ reports-count input in
+    rw (stored, all) (taken names (map nameOf (callReports input)) (omega (arith, counted, many)) (omega (arith, counted, long, answers-fit input within)))
+  where
+    taken : (l new : List ℕ) {n : ℕ} → n ≡ suc (length new) → n ≤ length l → (drop 1 (take n (sets l 1 new)) ≡ new) × (length (take n (sets l 1 new)) ≡ n)
+    taken [] new e h = absurd (omega arith)
+    taken (x ∷ l) new e h =
+        let seam = take-append-seam new (drop (1 + length new) (x ∷ l)) in
+        rw (e, sets-eq new (x ∷ l) 1 (omega arith)) (seam, ap (λ (front : List ℕ). suc (length front)) seam)
+
+-- a name that was stored stands for what was reported, as far as a line shows it
+lines-named : (i : ℕ) (answers : List ℕ) (reports : List Report) → linesFrom i answers (map reportNamed (map nameOf reports)) ≡ linesFrom i answers reports
+unfolding linesFrom lineOf
+lines-named i [] reports = refl
+lines-named i (answer ∷ rest) [] = refl
+lines-named i (answer ∷ rest) (Nothing ∷ reports) = rw (lines-named (i + 1) rest reports)
+lines-named i (answer ∷ rest) (Denied violation ∷ reports) = rw (lines-named (i + 1) rest reports)
+lines-named i (answer ∷ rest) (Through s ∷ reports) = rw (add-one, lines-named (i + 1) rest reports)
+
+-- the text from the answers and the names, and from the bytes that the calls were read from
 pub run-text : (input : List ℕ) {end : ℕ} → end ≡ min (2 + wordAt input 0) (length input)
     → loadLine (loadedOf input .number)
-    ++ (linesFrom 1 (drop 1 (answersOf input))
+    ++ (linesFrom 1 (drop 1 (answersOf input)) (map reportNamed (map nameOf (callReports input)))
     ++ pick (eqb (pick (eqb (loadedOf input .number) 0) (length input - end) 0 % 6) 0) [] (letters "cut\n"))
     ≡ runText input
 unfolding runText callAnswers cutOf linesFrom
-run-text input {end} ends = split (eqb (loadedOf input .number) 0)
+run-text input {end} ends = rw (lines-named 1 (callAnswers input) (callReports input)) (split (eqb (loadedOf input .number) 0))
   where
     split : (b : Bool)
         → loadLine (loadedOf input .number)
-        ++ (linesFrom 1 (pick b (answersFrom (loadedOf input .machine) (callsOf (callBytes input))) [])
+        ++ (linesFrom 1 (pick b (answersFrom (loadedOf input .machine) (callsOf (callBytes input))) []) (callReports input)
         ++ pick (eqb (pick b (length input - end) 0 % 6) 0) [] (letters "cut\n"))
         ≡ loadLine (loadedOf input .number)
-        ++ pick b (linesFrom 1 (pick b (answersFrom (loadedOf input .machine) (callsOf (callBytes input))) [])
+        ++ pick b (linesFrom 1 (pick b (answersFrom (loadedOf input .machine) (callsOf (callBytes input))) []) (callReports input)
         ++ pick (eqb (length (callBytes input) % 6) 0) [] (letters "cut\n")) []
     split true = rw (bytes-left input ends)
     split false = refl
@@ -76,10 +106,11 @@ run-most input within =
     word false = omega arith
 
     rest : (b : Bool)
-        → length (pick b (linesFrom 1 (callAnswers input) ++ pick (eqb (length (callBytes input) % 6) 0) [] (letters "cut\n")) []) ≤ 65536
+        → length (pick b (linesFrom 1 (callAnswers input) (callReports input) ++ pick (eqb (length (callBytes input) % 6) 0) [] (letters "cut\n")) [])
+        ≤ 98302
     rest true =
         simp length-append
-        (omega (arith, lines-most 1 (callAnswers input), answers-fit input within, word (eqb (length (callBytes input) % 6) 0)))
+        (omega (arith, lines-most 1 (callAnswers input) (callReports input), answers-fit input within, word (eqb (length (callBytes input) % 6) 0)))
     rest false = omega arith
 
 pub text-fits : (input : List ℕ) → length (textOf input) ≤ 100000

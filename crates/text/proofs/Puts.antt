@@ -1,8 +1,8 @@
 -- Texts put one after another are their join put at once; and how long the pieces of a line are at the most.
-use Prim.Native.Nat.{ℕ, suc, _+_, _/_, _%_, _≤_, _<_}
+use Prim.Native.Nat.{ℕ, zero, suc, _+_, _-_, _/_, _%_, _≤_, _<_}
 use mathlib.Core.Path.{_≡_, refl, ap, sym, _∙_}
 use mathlib.Core.Bool.{Bool, true, false}
-use mathlib.Core.List.{List, [], _∷_, _++_}
+use mathlib.Core.List.{List, [], _∷_, _++_, map}
 use native.Mathlib.Nat.{add-zero, add-suc}
 use native.Mathlib.Numerals.{add-one}
 use native.Mathlib.Omega.{arith}
@@ -10,9 +10,11 @@ use lib.Dec.{leb}
 use lib.ListN.{length, getD, set, drop, length-append}
 use lib.Seq.{sets, length-sets, drop-cons}
 use Rattle.rules.specs.Refusals.{pick}
+use Rattle.machine.specs.declared.record.Report.{Report}
+use Rattle.machine.specs.declared.record.Report.the-variants.{Nothing, Denied, Through}
 use Rattle.image.proofs.Stored.{sets-append}
 use Rattle.text.specs.Put.{Put}
-use Rattle.text.specs.Text.{leadingDigit, decimalOf, lineOf, linesFrom}
+use Rattle.text.specs.Text.{leadingDigit, decimalOf, nameText, reportNamed, lineOf, linesFrom}
 
 pub put-none : (l : List ℕ) (at : ℕ) → Put l at [] l at
 put-none l at = record { stored = refl; next = sym (add-zero at) }
@@ -48,22 +50,34 @@ decimal-most n =
     simp length-append
     (omega (arith, leading-most n 10000, leading-most n 1000, leading-most n 100, leading-most n 10))
 
-pub line-most : (i answer : ℕ) → length (lineOf i answer) ≤ 12
+pub name-most : (report : Report) → length (nameText report) ≤ 5
+name-most Nothing = omega arith
+name-most (Denied violation) = omega arith
+name-most (Through s) = decimal-most (s .0)
+
+-- a name that is not 0 stands for the domain one below it
+pub named-above : (name : ℕ) → (name ≡ 0 → ⊥) → nameText (reportNamed name) ≡ decimalOf (name - 1)
+named-above zero some = absurd (some refl)
+named-above (suc s) some = ap decimalOf (omega arith)
+
+pub line-most : (i answer : ℕ) (report : Report) → length (lineOf i answer report) ≤ 18
 unfolding lineOf
-line-most i answer = simp length-append (omega (arith, decimal-most i, decimal-most answer))
+line-most i answer report = simp length-append (omega (arith, decimal-most i, decimal-most answer, name-most report))
 
 -- a turn of the loop over bytes: the byte at i stored at its place, and those past it behind it, are the bytes from i on
 pub turn-byte : (out bytes : List ℕ) (at i : ℕ) → i < length bytes
     → sets (set out (at + i) (getD bytes i 0)) (at + (i + 1)) (drop (i + 1) bytes) ≡ sets out (at + i) (drop i bytes)
 turn-byte out bytes at i h = rw (drop-cons bytes i 0 h, add-one, add-suc)
 
--- a turn of the loop over the answers: the line of the answer at i, put, and the lines of those past it, put behind it, are the lines of the
--- answers from i on
-pub turn-line : (answers : List ℕ) (i : ℕ) {out out′ : List ℕ} {to to′ : ℕ} → i < length answers
-    → Put out to (lineOf i (getD answers i 0)) out′ to′
-    → (sets out′ to′ (linesFrom (i + 1) (drop (i + 1) answers)) ≡ sets out to (linesFrom i (drop i answers)))
-    × (to′ + length (linesFrom (i + 1) (drop (i + 1) answers)) ≡ to + length (linesFrom i (drop i answers)))
+-- a turn of the loop over the answers: the line of the answer at i with its name, put, and the lines of those past it, put behind it, are the lines of
+-- the answers from i on
+pub turn-line : (answers names : List ℕ) (i : ℕ) {out out′ : List ℕ} {to to′ : ℕ} → i < length answers → i < length names
+    → Put out to (lineOf i (getD answers i 0) (reportNamed (getD names i 0))) out′ to′
+    → let rest = linesFrom (i + 1) (drop (i + 1) answers) (map reportNamed (drop (i + 1) names)) in
+    let all = linesFrom i (drop i answers) (map reportNamed (drop i names)) in
+    (sets out′ to′ rest ≡ sets out to all) × (to′ + length rest ≡ to + length all)
 unfolding linesFrom
-turn-line answers i h line =
-    let rest = linesFrom (suc i) (drop (suc i) answers) in
-    rw (drop-cons answers i 0 h, add-one) (put-rest rest line, omega (arith, line .next, length-append (lineOf i (getD answers i 0)) rest))
+turn-line answers names i h h′ line =
+    let rest = linesFrom (suc i) (drop (suc i) answers) (map reportNamed (drop (suc i) names)) in
+    rw (drop-cons answers i 0 h, drop-cons names i 0 h′, add-one)
+    (put-rest rest line, omega (arith, line .next, length-append (lineOf i (getD answers i 0) (reportNamed (getD names i 0))) rest))

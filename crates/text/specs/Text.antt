@@ -25,15 +25,19 @@ unfoldable pub decimalOf : ℕ → List ℕ
 decimalOf n =
     leadingDigit n 10000 ++ leadingDigit n 1000 ++ leadingDigit n 100 ++ leadingDigit n 10 ++ ((48 + n % 10) ∷ [])
 
--- RULES 8.3: the third field of a line: the domain that a report names, or `-` where it names none
-abbrev pub nameField : Report → List ℕ
-nameField Nothing = letters "-"
-nameField (Denied violation) = letters "-"
-nameField (Through s) = decimalOf (s .0)
+-- RULES 8.3: a field of a line past the first, with the space before it
+abbrev pub field : List ℕ → List ℕ
+field text = letters " " ++ text
+
+-- RULES 8.3: what a report names: a domain, or `-` for none
+abbrev pub nameText : Report → List ℕ
+nameText Nothing = letters "-"
+nameText (Denied violation) = letters "-"
+nameText (Through s) = decimalOf (s .0)
 
 -- RULES 8.3: the line of a record: which one it is, its number and what it names
 unfoldable pub lineOf : ℕ → ℕ → Report → List ℕ
-lineOf i answer report = decimalOf i ++ letters " " ++ decimalOf answer ++ letters " " ++ nameField report ++ letters "\n"
+lineOf i answer report = decimalOf i ++ field (decimalOf answer) ++ field (nameText report) ++ letters "\n"
 
 -- RULES 8.3: the lines of all records, counted from i on, from their numbers and what they report; one without a report names none
 unfoldable pub linesFrom : ℕ → List ℕ → List Report → List ℕ

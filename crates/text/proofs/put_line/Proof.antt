@@ -1,8 +1,8 @@
 -- `text::put_line` meets its contract: its parts are put one after another.
 use borrow.Author.Needs.{needs}
 use native.Mathlib.Omega.{arith}
-use Rattle.text.specs.Text.{lineOf}
-use Rattle.text.proofs.Puts.{put-put, put-long, decimal-most}
+use Rattle.text.specs.Text.{lineOf, reportNamed}
+use Rattle.text.proofs.Puts.{put-put, put-long, decimal-most, name-most}
 use Rattle.text.proofs.put_line.Statement.{statement}
 use Rattle.text.proofs.put_line.Tie as tie
 
@@ -10,12 +10,12 @@ returns : tie.Need-returns
 unfolding lineOf
 returns c =
     let p₁ : tie.After-put-decimal = (search) in
-    let p₂ : tie.After-put-byte = (search) in
-    let p₃ : tie.After-put-decimal2 = (search) in
-    let p₄ : tie.After-put-byte2 = (search) in
+    let p₂ : tie.After-put-field = (search) in
+    let p₃ : tie.After-put-name = (search) in
+    let p₄ : tie.After-put-byte = (search) in
     put-put
-    (put-put (put-put (p₁ .put-decimal .ensures) (p₂ .put-byte .ensures)) (p₃ .put-decimal2 .ensures))
-    (p₄ .put-byte2 .ensures)
+    (put-put (put-put (p₁ .put-decimal .ensures) (p₂ .put-field .ensures)) (p₃ .put-name .ensures))
+    (p₄ .put-byte .ensures)
 
 pub put-line-spec : {M : Type 1} → statement M
 put-line-spec =
@@ -23,7 +23,10 @@ put-line-spec =
     (tie.spec
     (search needs)
     (λ c κs. let start : tie.Start = (search) in omega (arith, put-long, decimal-most (start .args .i)))
-    (λ c κs. let start : tie.Start = (search) in omega (arith, put-long, decimal-most (start .args .i)))
     (λ c κs. let start : tie.Start = (search) in omega (arith, put-long, decimal-most (start .args .i), decimal-most (start .args .answer)))
+    (λ c κs.
+    let start : tie.Start = (search) in
+    let a = start .args in
+    omega (arith, put-long, decimal-most (a .i), decimal-most (a .answer), name-most (reportNamed (a .name))))
     (λ c. search needs)
     returns)
