@@ -1,6 +1,6 @@
 // A case of writing: two rounds of a load, calls and a write, the second on the image that the first one wrote. Its bytes are the room of the
-// lent buffer (2 bytes, high byte first) and an input as `pagerun` takes it. What the question for the last violation hands out, which a run does
-// not show, is printed here.
+// lent buffer (2 bytes, high byte first) and an input as `pagerun` takes it. A record's line has what the call by value named, as that of a run has it. What
+// the question for the last violation hands out, which a run does not show, is printed here.
 use image::bytes::byte_at;
 use image::bytes::word_at;
 use image::load;
@@ -109,11 +109,28 @@ fn print_report(report: Report) -> Report
     report
 }
 
-// Prints the number and the answer of a record, and after one of kind 12 what it handed out. Gives the record's number back.
+// Prints the last field of a record's line: the domain that was named, or that it was none. Hands the report back.
+fn print_name(report: Report) -> Report
+    ensures { λ r. ⌜ r ≡ report ⌝ }
+{
+    let Report::Through(domain) = report else {
+        io::write_all(STDOUT_FILENO, b" -\n");
+        return report;
+    };
+    io::write_all(STDOUT_FILENO, b" ");
+    io::print_decimal(STDOUT_FILENO, domain.0 as u64);
+    io::write_all(STDOUT_FILENO, b"\n");
+    report
+}
+
+// Prints the number and the answer of a record and what it named, and after one of kind 12 what it handed out. Gives the record's number back.
 fn print_call(number: u64, kind: u8, answer: u8, report: Report) -> u64
     ensures { λ r. ⌜ r ≡ number ⌝ }
 {
-    print_two(number, answer as u64);
+    io::print_decimal(STDOUT_FILENO, number);
+    io::write_all(STDOUT_FILENO, b" ");
+    io::print_decimal(STDOUT_FILENO, answer as u64);
+    print_name(report);
     if kind == 12 {
         print_report(report);
     }
