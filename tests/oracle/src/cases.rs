@@ -1,5 +1,6 @@
 //! The stored runs, in a fixed order. Each says what it is for and, by hand from
-//! the rules, which answers are due; the unit tests hold the oracle to them.
+//! the rules, which answers are due; the unit tests hold the oracle to them. Some
+//! also say, by hand again, which domain each call is to name.
 //!
 //! A run starts from a loaded machine, which is sound, and every call keeps it so; a violation
 //! is stored by a program of the table with a right and an address that were found good before.
@@ -9,11 +10,14 @@ mod commands;
 mod kernel;
 mod lengths;
 mod loader;
+pub mod many;
+mod named;
 mod questions;
 mod sample;
 mod two_bytes;
 
 use crate::histories;
+use crate::machine::{Domain, Named};
 use crate::random::Random;
 use crate::run;
 use crate::write::*;
@@ -23,19 +27,43 @@ pub struct Case {
     pub input: Vec<u8>,
     /// The answers as the bench gets them. The random runs at the end have none written here.
     pub due: Option<Vec<u8>>,
+    /// The domain that each call names or none, where that is written by hand too.
+    pub named: Option<Vec<Named>>,
 }
 
 impl Case {
-    /// The oracle's answers against those due.
+    /// The oracle's answers and named domains against those due.
     pub fn check(&self, number: usize) {
         if let Some(due) = &self.due {
             assert_eq!(&run::answers(&self.input), due, "case {number}: {}", self.purpose);
+        }
+        if let Some(due) = &self.named {
+            let run = run::run(&self.input).expect("the input is not too long");
+            let named: Vec<Named> = run.calls.iter().map(|call| call.named()).collect();
+            assert_eq!(&named, due, "case {number}: {}, the domains", self.purpose);
         }
     }
 }
 
 /// A call and the answer due to it.
 pub type Step = (Record, u8);
+
+/// A call, the answer due to it, and the number of the domain that it names, or none.
+pub type NamedStep = (Record, u8, Option<u16>);
+
+/// The same steps, none of which names a domain.
+pub fn naming_none(steps: &[Step]) -> Vec<NamedStep> {
+    steps.iter().map(|&(record, answer)| (record, answer, None)).collect()
+}
+
+/// The same steps without what they name.
+pub fn without_names(steps: &[NamedStep]) -> Vec<Step> {
+    steps.iter().map(|&(record, answer, _)| (record, answer)).collect()
+}
+
+pub fn names(numbers: &[Option<u16>]) -> Vec<Named> {
+    numbers.iter().map(|number| number.map(Domain)).collect()
+}
 
 #[derive(Default)]
 pub struct Cases {
@@ -45,7 +73,7 @@ pub struct Cases {
 impl Cases {
     /// An input as it stands, with the answers due.
     fn input(&mut self, purpose: &str, input: Vec<u8>, due: &[u8]) {
-        self.list.push(Case { purpose: purpose.to_string(), input, due: Some(due.to_vec()) });
+        self.list.push(Case { purpose: purpose.to_string(), input, due: Some(due.to_vec()), named: None });
     }
 
     /// A legal image and calls on it.
@@ -54,6 +82,13 @@ impl Cases {
         let mut due = vec![0];
         due.extend(steps.iter().map(|step| step.1));
         self.input(purpose, input(&plan.image(), &records.concat()), &due);
+    }
+
+    /// A legal image and calls on it, with what each of them names.
+    fn named_run(&mut self, purpose: &str, plan: &Plan, steps: &[NamedStep]) {
+        self.run(purpose, plan, &without_names(steps));
+        let numbers: Vec<Option<u16>> = steps.iter().map(|step| step.2).collect();
+        self.list.last_mut().expect("a case was added").named = Some(names(&numbers));
     }
 
     /// An image and the answer of its load. One call follows, which shows that a refused load stops.
@@ -70,11 +105,12 @@ pub fn all() -> Vec<Case> {
     kernel::add(&mut cases);
     questions::add(&mut cases);
     two_bytes::add(&mut cases);
+    named::add(&mut cases);
     loader::add(&mut cases);
     lengths::add(&mut cases);
     for seed in 1..=12 {
         let input = histories::legal(&mut Random::new(seed), 120);
-        cases.list.push(Case { purpose: format!("a random run, seed {seed}"), input, due: None });
+        cases.list.push(Case { purpose: format!("a random run, seed {seed}"), input, due: None, named: None });
     }
     cases.list
 }

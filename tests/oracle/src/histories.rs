@@ -19,6 +19,39 @@ pub fn legal(random: &mut Random, calls: usize) -> Vec<u8> {
     input(&image, &rest)
 }
 
+/// The same, but that fields, contexts and masks share several domains as often as not, and that
+/// many calls are accesses that name one: where one domain alone is shared, every way of choosing
+/// it gives the same.
+pub fn naming(random: &mut Random, calls: usize) -> Vec<u8> {
+    let mut plan = legal_plan(random);
+    // The edges of a few pages are enough, and leave room for calls.
+    if random.chance(80) {
+        plan.pages.truncate(12);
+    }
+    for (read, write) in &mut plan.pages {
+        (*read, *write) = (several(random, *read), several(random, *write));
+    }
+    for (context, mask, _) in &mut plan.programs {
+        (*context, *mask) = (several(random, *context), several(random, *mask));
+    }
+    let image = plan.image();
+    let mut rest = namings(random, &image, calls);
+    if random.chance(20) {
+        let left = random.between(1, 5);
+        rest.extend((0..left).map(|_| random.byte()));
+    }
+    input(&image, &rest)
+}
+
+/// A set of several domains, often without those of highest level, or the given one.
+fn several(random: &mut Random, given: u16) -> u16 {
+    match random.below(4) {
+        0 => given,
+        1 => random.word(),
+        _ => random.word() & (0xFFFF << random.below(14)),
+    }
+}
+
 /// Sets of domains. Most are drawn from a few domains, so that fields and contexts overlap.
 #[derive(Clone, Copy)]
 struct Pool(u16);
@@ -120,6 +153,22 @@ pub fn changes(random: &mut Random, image: &[u8], calls: usize) -> Vec<u8> {
     }
     if history.random.chance(60) {
         history.come_to_rest();
+    }
+    history.records
+}
+
+/// Records among which accesses that name a domain are frequent, each followed at times by any other.
+fn namings(random: &mut Random, image: &[u8], calls: usize) -> Vec<u8> {
+    let machine = load(image).expect("the image is legal");
+    let pool = Pool(random.word());
+    let mut history = History { random, machine, pool, nesting: false, sinking: false, records: Vec::new() };
+    while history.records.len() < calls * RECORD && !history.stuck() {
+        match history.random.below(100) {
+            0..=2 => history.denial(),
+            3..=19 => history.visit(),
+            20..=59 => history.named_access(),
+            _ => history.one_call(),
+        }
     }
     history.records
 }
@@ -272,6 +321,13 @@ impl History<'_> {
     /// A right and an edge, as the number of the page behind it, of which the page in front and the
     /// page behind give what is wanted, searched from a random place on. One page has no edge.
     fn search_edge(&mut self, wanted: (bool, bool)) -> Option<(u8, u32)> {
+        self.search_edge_where(|machine, right, behind| {
+            (machine.gives(right, behind - 1), machine.gives(right, behind)) == wanted
+        })
+    }
+
+    /// A right and an edge with the wanted property, which is asked with the first byte behind it.
+    fn search_edge_where(&mut self, wanted: impl Fn(&Machine, u8, u64) -> bool) -> Option<(u8, u32)> {
         let edges = self.machine.pages.len() as u32 - 1;
         if edges == 0 {
             return None;
@@ -281,7 +337,7 @@ impl History<'_> {
         for n in 0..2 * edges {
             let (right, edge) = ((first_right + (n / edges) as u8) % 2, 1 + (start + n) % edges);
             let behind = u64::from(edge) * size;
-            if (self.machine.gives(right, behind - 1), self.machine.gives(right, behind)) == wanted {
+            if wanted(&self.machine, right, behind) {
                 return Some((right, edge));
             }
         }
@@ -312,6 +368,38 @@ impl History<'_> {
         let found = if self.random.chance(75) { open.or(shut) } else { shut.or(open) };
         let (right, page) = found.expect("every field is one or the other");
         access_of_kind(kind, right, self.address_in(page))
+    }
+
+    /// An access in user mode with the flag clear, if that can be reached, to a field that shares
+    /// domains with the local context, if there is one; often under a new mask.
+    fn named_access(&mut self) {
+        if self.machine.pending && self.put(entry_call()) != 0 {
+            return;
+        }
+        self.enter_user_mode();
+        if self.random.chance(40) {
+            let bits = several(self.random, 0xFFFF);
+            self.put(mask(bits));
+        }
+        let record = self.a_named_access();
+        if let Some(record) = record {
+            self.put(record);
+        }
+    }
+
+    /// Of two bytes across an edge where its pages give through different domains, or of one page.
+    fn a_named_access(&mut self) -> Option<Record> {
+        if self.random.chance(40) {
+            let found = self.search_edge_where(|machine, right, behind| {
+                let both = machine.giver(right, behind - 1).zip(machine.giver(right, behind));
+                both.is_some_and(|(first, second)| first != second)
+            });
+            if let Some((right, edge)) = found {
+                return Some(access_two(right, edge * self.machine.page_size() as u32 - 1));
+            }
+        }
+        let (right, page) = self.search(|machine, field| field & machine.local_context() != 0)?;
+        Some(self.an_access_within(right, page))
     }
 
     /// An address in a page, often its first, its last or its last but one.

@@ -91,6 +91,10 @@ pub struct Machine {
 /// Done or allowed, or the number of the condition that was met first.
 pub type Answer = Result<(), u8>;
 
+/// The domain that an answer names, or none (RULES 2.13). Domain 0 is a name like any other, so that
+/// no number can stand for none.
+pub type Named = Option<Domain>;
+
 fn refuse_if(met: bool, number: u8) -> Answer {
     if met {
         Err(number)
@@ -157,6 +161,23 @@ impl Machine {
         self.field(right, self.page_of(byte)) & self.local_context() != 0
     }
 
+    /// The domain through which the page of a byte gives a right: the highest level among those that
+    /// the field and the local context both hold (RULES 3.3). It is none where they share none. The
+    /// domains are asked one after another, from the highest level down, for each of the three words
+    /// that must hold them: the search for the prevailing domain sees the field alone and is of no
+    /// use here. Only for a right of 0 or 1 and a byte in memory.
+    pub fn giver(&self, right: u8, byte: u64) -> Named {
+        let field = self.field(right, self.page_of(byte));
+        for s in 0..DOMAINS {
+            let domain = Domain(s);
+            let held_by = |word: u16| word & bit(domain) != 0;
+            if held_by(field) && held_by(self.context) && held_by(self.mask) {
+                return Some(domain);
+            }
+        }
+        None
+    }
+
     /// Only for a right of 0 or 1 and a page below the page count.
     pub fn field(&self, right: u8, page: Page) -> u16 {
         let fields = &self.pages[page.0 as usize];
@@ -221,14 +242,16 @@ impl Machine {
     }
 
     /// An access of either width: one rule over the list of bytes it touches (RULES 3.2, 3.3). Each
-    /// byte's page is asked by itself, so that what one page gives is of no use to the other.
-    pub fn access(&mut self, width: Width, right: u8, address: u32) -> Answer {
+    /// byte's page is asked by itself, so that what one page gives is of no use to the other. Where
+    /// it is allowed it names the domain that gave it (RULES 2.13).
+    pub fn access(&mut self, width: Width, right: u8, address: u32) -> Result<Named, u8> {
         let touched = width.touched(address);
         self.refuse_unsound()?;
         self.refuse_right(right)?;
         refuse_if(touched.iter().any(|&byte| byte >= self.memory()), 3)?;
         if self.privileged() {
-            return Ok(());
+            // No page was asked, so no domain gave anything, whatever the context shares with a field.
+            return Ok(None);
         }
         self.refuse_pending()?;
         if !touched.iter().all(|&byte| self.gives(right, byte)) {
@@ -238,7 +261,8 @@ impl Machine {
             self.pending = true;
             return Err(9);
         }
-        Ok(())
+        // Of two bytes the first one's page speaks, also where the other page has a higher domain.
+        Ok(self.giver(right, touched[0]))
     }
 
     /// Grant and revoke refuse alike.

@@ -10,7 +10,6 @@ mod machine;
 mod random;
 mod rounds;
 mod run;
-#[cfg(any(test, feature = "linked"))]
 mod sorts;
 mod stored;
 #[cfg(test)]
@@ -24,7 +23,8 @@ use std::io::{self, Read, Write};
 use std::process::ExitCode;
 
 const USAGE: &str = "usage: oracle text | answers | compare SEED RUNS
-       oracle cases-input | cases-output | cases-list | cases-text | writes-random SEED RUNS";
+       oracle cases-input | cases-output | cases-list | cases-text
+       oracle runs-random SEED RUNS | writes-random SEED RUNS";
 const NUMBERS: &str = "SEED and RUNS are decimal numbers";
 
 fn main() -> ExitCode {
@@ -40,16 +40,20 @@ fn main() -> ExitCode {
         ["cases-output"] => stored::output().into_bytes(),
         ["cases-list"] => stored::listing().into_bytes(),
         ["cases-text"] => stored::text(&standard_input()).into_bytes(),
-        ["writes-random", seed, runs] => match (seed.parse(), runs.parse()) {
-            (Ok(seed), Ok(runs)) => match writes::many::file(seed, runs) {
+        [sort @ ("runs-random" | "writes-random"), seed, runs] => {
+            let (Ok(seed), Ok(runs)) = (seed.parse(), runs.parse()) else {
+                return fail(NUMBERS);
+            };
+            let file =
+                if sort == "runs-random" { cases::many::file(seed, runs) } else { writes::many::file(seed, runs) };
+            match file {
                 Ok(file) => file,
                 Err(wrong) => {
                     eprint!("{wrong}");
                     return ExitCode::FAILURE;
                 }
-            },
-            _ => return fail(NUMBERS),
-        },
+            }
+        }
         ["compare", seed, runs] => {
             return match (seed.parse(), runs.parse()) {
                 (Ok(seed), Ok(runs)) => compare(seed, runs),

@@ -2,7 +2,7 @@
 //! bytes that the first wrote.
 
 use crate::image::load;
-use crate::machine::{Machine, Violation};
+use crate::machine::{Machine, Named, Violation};
 use crate::run::{split, step, Outcome, RECORD};
 use crate::writer::{write_image, Written};
 
@@ -34,11 +34,16 @@ impl Round {
         self.calls.iter().map(|call| call.number()).collect()
     }
 
+    /// The domain that each call names.
+    pub fn named(&self) -> Vec<Named> {
+        self.calls.iter().map(|call| call.named()).collect()
+    }
+
     /// The line of each question, in the order of the calls.
     pub fn hand_outs(&self) -> Vec<String> {
         let handed_out = self.calls.iter().filter_map(|&call| match call {
             Outcome::Question(_, handed_out) => Some(handed_out),
-            Outcome::Number(_) => None,
+            Outcome::Number(_) | Outcome::Access(..) => None,
         });
         handed_out.map(line).collect()
     }
@@ -46,7 +51,7 @@ impl Round {
     fn text(&self) -> String {
         let mut text = format!("load {}\n", self.load);
         for (before, call) in self.calls.iter().enumerate() {
-            text += &format!("{} {}\n", before + 1, call.number());
+            text += &call.line(before);
             if let Outcome::Question(_, handed_out) = *call {
                 text += &format!("{}\n", line(handed_out));
             }

@@ -1,7 +1,7 @@
 //! The record decoder and the whole run: the answers, the text, the bench's answers.
 
 use crate::image::load;
-use crate::machine::{Domain, Machine, Page, Violation, Width};
+use crate::machine::{Answer, Domain, Machine, Named, Page, Violation, Width};
 
 pub const LONGEST_INPUT: usize = 32_768;
 pub const RECORD: usize = 6;
@@ -26,19 +26,39 @@ pub enum Call {
     Question,
 }
 
-/// What a record gives. All give a number; the question also hands out the last violation or
-/// none, and none where it is refused (RULES 3.25).
+/// What a record gives. All give a number. An access also names a domain or none, and none where
+/// it is refused (RULES 2.13, 3.3). The question also hands out the last violation or none, and none
+/// where it is refused (RULES 3.25).
 #[derive(Clone, Copy, PartialEq, Eq, Debug)]
 pub enum Outcome {
     Number(u8),
+    Access(u8, Named),
     Question(u8, Option<Violation>),
 }
 
 impl Outcome {
     pub fn number(self) -> u8 {
         match self {
-            Outcome::Number(number) | Outcome::Question(number, _) => number,
+            Outcome::Number(number) | Outcome::Access(number, _) | Outcome::Question(number, _) => number,
         }
+    }
+
+    /// Nothing but an access can name a domain.
+    pub fn named(self) -> Named {
+        match self {
+            Outcome::Access(_, named) => named,
+            Outcome::Number(_) | Outcome::Question(..) => None,
+        }
+    }
+
+    /// The line of a call, of which so many came before: which one it is, counted from 1, its number,
+    /// and the domain that it names or a dash (RULES 8.3).
+    pub fn line(self, before: usize) -> String {
+        let named = match self.named() {
+            Some(Domain(s)) => s.to_string(),
+            None => String::from("-"),
+        };
+        format!("{} {} {named}\n", before + 1, self.number())
     }
 }
 
@@ -67,26 +87,27 @@ pub fn decode(record: &[u8]) -> Option<Call> {
 }
 
 fn obey(machine: &mut Machine, call: Call) -> Outcome {
-    let answer = match call {
-        Call::Access { width, right, address } => machine.access(width, right, address),
-        Call::Grant { right, page, domain } => machine.grant(right, page, domain),
-        Call::Revoke { right, page, domain } => machine.revoke(right, page, domain),
-        Call::Mask { mask } => machine.mask_command(mask),
-        Call::Entry => machine.interrupt_entry(),
-        Call::Return => machine.return_from_interrupt(),
-        Call::Switch { program } => machine.switch(program),
-        Call::StoreField { right, page, bits } => machine.store_field(right, page, bits),
-        Call::StoreContext { context } => machine.store_context(context),
-        Call::StoreMask { mask } => machine.store_mask(mask),
-        Call::StoreMode { number } => machine.store_mode(number),
-        Call::Question => {
-            return match machine.question() {
-                Ok(last_violation) => Outcome::Question(0, last_violation),
-                Err(number) => Outcome::Question(number, None),
-            }
-        }
-    };
-    Outcome::Number(answer.err().unwrap_or(0))
+    let number_alone = |answer: Answer| Outcome::Number(answer.err().unwrap_or(0));
+    match call {
+        Call::Access { width, right, address } => match machine.access(width, right, address) {
+            Ok(named) => Outcome::Access(0, named),
+            Err(number) => Outcome::Access(number, None),
+        },
+        Call::Grant { right, page, domain } => number_alone(machine.grant(right, page, domain)),
+        Call::Revoke { right, page, domain } => number_alone(machine.revoke(right, page, domain)),
+        Call::Mask { mask } => number_alone(machine.mask_command(mask)),
+        Call::Entry => number_alone(machine.interrupt_entry()),
+        Call::Return => number_alone(machine.return_from_interrupt()),
+        Call::Switch { program } => number_alone(machine.switch(program)),
+        Call::StoreField { right, page, bits } => number_alone(machine.store_field(right, page, bits)),
+        Call::StoreContext { context } => number_alone(machine.store_context(context)),
+        Call::StoreMask { mask } => number_alone(machine.store_mask(mask)),
+        Call::StoreMode { number } => number_alone(machine.store_mode(number)),
+        Call::Question => match machine.question() {
+            Ok(last_violation) => Outcome::Question(0, last_violation),
+            Err(number) => Outcome::Question(number, None),
+        },
+    }
 }
 
 /// One record: what it gives, with the machine changed as it says.
@@ -108,10 +129,12 @@ pub fn split(input: &[u8]) -> (&[u8], &[u8]) {
     rest.split_at(declared.min(rest.len()))
 }
 
-/// A run gives the number of each call and nothing more, of the question too (RULES 6.5).
+/// A run gives the number of each call and the domain it names. What a question hands out is
+/// printed by no run.
 pub struct Run {
     pub load: u8,
-    pub calls: Vec<u8>,
+    /// One for each whole record.
+    pub calls: Vec<Outcome>,
     /// Whether a remainder of 1 to 5 bytes was met. After a refused load nothing more is read.
     pub cut: bool,
 }
@@ -128,7 +151,7 @@ pub fn run(input: &[u8]) -> Option<Run> {
     };
     let whole = records.chunks_exact(RECORD);
     let cut = !whole.remainder().is_empty();
-    let calls = whole.map(|record| step(&mut machine, record).number()).collect();
+    let calls = whole.map(|record| step(&mut machine, record)).collect();
     Some(Run { load: 0, calls, cut })
 }
 
@@ -138,8 +161,8 @@ pub fn text(input: &[u8]) -> String {
         return String::from("long\n");
     };
     let mut text = format!("load {}\n", run.load);
-    for (before, answer) in run.calls.iter().enumerate() {
-        text += &format!("{} {}\n", before + 1, answer);
+    for (before, call) in run.calls.iter().enumerate() {
+        text += &call.line(before);
     }
     if run.cut {
         text += "cut\n";
@@ -147,12 +170,13 @@ pub fn text(input: &[u8]) -> String {
     text
 }
 
-/// What the bench gets where its buffer is long enough: none for an input that is too long.
+/// What the bench gets where its buffer is long enough: none for an input that is too long. It has
+/// the numbers alone, and never a domain (RULES 7.2).
 pub fn answers(input: &[u8]) -> Vec<u8> {
     let Some(run) = run(input) else {
         return Vec::new();
     };
     let mut answers = vec![run.load];
-    answers.extend(run.calls);
+    answers.extend(run.calls.iter().map(|call| call.number()));
     answers
 }

@@ -1,15 +1,16 @@
 //! The sample and the starred cases (RULES 5.12, 5.13, 6.11) with their numbers, the stored cases,
 //! the writer with what its promises say of it (RULES 5.14 to 5.18), the last violation with the
-//! question for it (RULES 1.11, 1.16, 3.3, 3.24, 3.25), and accesses of both widths (RULES 3.2, 3.3).
+//! question for it (RULES 1.11, 1.16, 3.3, 3.24, 3.25), accesses of both widths (RULES 3.2, 3.3), and
+//! the domain that an access names (RULES 2.13, 3.3, 8.3).
 
-use crate::cases::{self, sample};
-use crate::histories::{legal, legal_plan};
+use crate::cases::{self, many::Counts, sample};
+use crate::histories::{legal, legal_plan, naming};
 use crate::image::load;
 use crate::machine::{prevailing, Domain, Fields, Machine, Mode, Page, Program, Violation, Width, READ, WRITE};
 use crate::random::Random;
 use crate::rounds::{rounds, take_apart};
-use crate::run::{answers, decode, split, step, text, Call, Outcome, LAST_KIND, RECORD};
-use crate::sorts::{sort, SORTS};
+use crate::run::{answers, decode, split, step, text, Call, Outcome, LAST_KIND, LONGEST_INPUT, RECORD};
+use crate::sorts::{givers, sort, SORTS};
 use crate::stored::{self, RUN, WRITING};
 use crate::writer::{write_image, Written};
 use crate::writes::{self, many};
@@ -57,8 +58,8 @@ fn the_sample_loads_to_the_machine_it_describes() {
 }
 
 #[test]
-fn the_sample_run_prints_what_document_01_says() {
-    assert_eq!(text(&sample_input()), "load 0\n1 0\n2 9\n3 8\n4 0\n5 0\n6 0\n7 0\n8 9\n");
+fn the_sample_run_prints_what_the_documents_say() {
+    assert_eq!(text(&sample_input()), "load 0\n1 0 0\n2 9 -\n3 8 -\n4 0 -\n5 0 -\n6 0 -\n7 0 3\n8 9 -\n");
     assert_eq!(answers(&sample_input()), [0, 0, 9, 8, 0, 0, 0, 0, 9]);
 }
 
@@ -71,8 +72,8 @@ fn the_stored_cases_start_with_the_sample() {
 #[test]
 fn the_starred_cases() {
     let (zero, one, two) = (Page(0), Page(1), Page(2));
-    assert_eq!(loaded().access(Width::One, READ, 256), Ok(()));
-    assert_eq!(loaded().access(Width::One, WRITE, 256), Ok(()));
+    assert_eq!(loaded().access(Width::One, READ, 256), Ok(Some(Domain(1))));
+    assert_eq!(loaded().access(Width::One, WRITE, 256), Ok(Some(Domain(1))));
     assert_eq!(loaded().access(Width::One, WRITE, 0), Err(9));
     assert_eq!(loaded().access(Width::One, READ, 767), Err(9));
     assert_eq!(loaded().access(Width::One, READ, 768), Err(3));
@@ -198,9 +199,7 @@ fn the_prevailing_domain_is_the_lowest_numbered() {
 #[test]
 fn the_oracle_gives_the_answers_written_beside_the_cases() {
     for (before, case) in cases::all().iter().enumerate() {
-        if let Some(due) = &case.due {
-            assert_eq!(&answers(&case.input), due, "case {}: {}", before + 1, case.purpose);
-        }
+        case.check(before + 1);
     }
 }
 
@@ -249,7 +248,7 @@ fn text_at_the_edges() {
     assert_eq!(text(&[0; 32_768]), "load 20\n");
     assert_eq!(text(&[0; 32_769]), "long\n");
     let cut = [&sample_input()[..], &[5]].concat();
-    assert_eq!(text(&cut), "load 0\n1 0\n2 9\n3 8\n4 0\n5 0\n6 0\n7 0\n8 9\ncut\n");
+    assert_eq!(text(&cut), "load 0\n1 0 0\n2 9 -\n3 8 -\n4 0 -\n5 0 -\n6 0 -\n7 0 3\n8 9 -\ncut\n");
     assert_eq!(text(&[&[0xFF, 0xFF], &SAMPLE[..]].concat()), "load 0\n");
     let mut refused = cut.clone();
     refused[2 + 43] = 2;
@@ -420,6 +419,7 @@ writes-random: the writer answered 26 0 times, fewer than 20
 writes-random: the writer answered 27 0 times, fewer than 20
 writes-random: a question gave `denied` 0 times, fewer than 20
 writes-random: a question gave `none` 0 times, fewer than 20
+writes-random: an access named a domain 0 times, fewer than 20
 "
     );
 }
@@ -439,7 +439,7 @@ fn random_cases_of_the_writer_ask_after_violations_of_all_sorts() {
                         addresses.insert(violation.address);
                     }
                     Outcome::Question(number, None) => none_with[usize::from(number == 7)] += 1,
-                    Outcome::Number(_) => {}
+                    Outcome::Number(_) | Outcome::Access(..) => {}
                 }
             }
         }
@@ -483,7 +483,7 @@ fn the_bytes_touched() {
 /// machine: the earlier refusal counts, and 8 comes before 9.
 fn from_single_bytes(machine: &Machine, right: u8, address: u32) -> u8 {
     let alone = |address| match machine.clone().access(Width::One, right, address) {
-        Ok(()) => 0,
+        Ok(_) => 0,
         Err(number) => number,
     };
     // Behind the last address there is no byte.
@@ -508,7 +508,12 @@ fn an_access_of_two_bytes_is_allowed_where_both_single_bytes_are() {
             for right in [READ, WRITE, 2, 255] {
                 let due = from_single_bytes(&machine, right, address);
                 let mut after = machine.clone();
-                assert_eq!(after.access(Width::Two, right, address).err().unwrap_or(0), due);
+                let answer = after.access(Width::Two, right, address);
+                assert_eq!(answer.err().unwrap_or(0), due);
+                // Where it is allowed it names what its first byte alone names.
+                if due == 0 {
+                    assert_eq!(answer, machine.clone().access(Width::One, right, address));
+                }
                 let mut expected = machine.clone();
                 if due == 9 {
                     expected.pending = true;
@@ -635,6 +640,317 @@ fn random_cases_of_the_writer_ask_after_violations_of_two_bytes() {
     }
 }
 
+/// What a call met, and what it named.
+struct Met {
+    before: Machine,
+    record: [u8; RECORD],
+    outcome: Outcome,
+}
+
+/// Every call of a run. There is none where the image is refused or the input too long.
+fn met(input: &[u8]) -> Vec<Met> {
+    let (image, records) = split(input);
+    let (Ok(mut machine), true) = (load(image), input.len() <= LONGEST_INPUT) else {
+        return vec![];
+    };
+    let records = records.chunks_exact(RECORD);
+    records
+        .map(|record| {
+            let before = machine.clone();
+            let outcome = step(&mut machine, record);
+            Met { before, record: record.try_into().expect("a whole record"), outcome }
+        })
+        .collect()
+}
+
+impl Met {
+    fn right(&self) -> u8 {
+        self.record[1]
+    }
+
+    fn address(&self) -> u64 {
+        u32::from_be_bytes([self.record[2], self.record[3], self.record[4], self.record[5]]).into()
+    }
+
+    /// Only for an access that was allowed.
+    fn field(&self) -> u16 {
+        self.before.field(self.right(), self.before.page_of(self.address()))
+    }
+
+    /// Whether it is an access that user mode was allowed.
+    fn given(&self) -> bool {
+        matches!(self.record[0], 1 | 13) && !self.before.privileged() && self.outcome.number() == 0
+    }
+
+    /// A domain is named where an access in user mode was allowed and nowhere else; its bit is in the
+    /// field of the first byte's page and in the local context, and no lower one is (RULES 3.3).
+    fn check(&self) {
+        let Some(Domain(s)) = self.outcome.named() else {
+            assert!(!self.given(), "an access that was given and names none");
+            return;
+        };
+        assert!(self.given(), "a domain for something else than an access that was given");
+        assert!(s < 16);
+        let shared = self.field() & self.before.context & self.before.mask;
+        assert_eq!(shared & (1 << s), 1 << s, "the domain does not give it");
+        assert_eq!(shared % (1 << s), 0, "there is a domain of higher level");
+    }
+}
+
+#[test]
+fn a_domain_is_named_where_user_mode_is_allowed_an_access_and_nowhere_else() {
+    let stored = cases::all().into_iter().map(|case| case.input);
+    let random = (0..150).map(|seed| legal(&mut Random::new(seed), 150));
+    let more = (0..100).map(|seed| naming(&mut Random::new(seed), 150));
+    let (mut named, mut several, mut privileged) = (0, 0, 0);
+    for input in stored.chain(random).chain(more) {
+        for call in met(&input) {
+            call.check();
+            named += usize::from(call.given());
+            several += usize::from(call.given() && (call.field() & call.before.local_context()).count_ones() > 1);
+            // These share a domain with the field, and must not name it.
+            let open = call.outcome.number() == 0 && matches!(call.record[0], 1 | 13) && call.before.privileged();
+            privileged += usize::from(open && call.field() & call.before.local_context() != 0);
+        }
+    }
+    assert!(named >= 5_000 && several >= 1_500 && privileged >= 300, "{named}, {several}, {privileged}");
+}
+
+#[test]
+fn the_same_in_both_rounds_of_cases_of_writing() {
+    let stored = writes::all().into_iter().map(|case| case.bytes);
+    let random = (0..200).map(|number| many::case(&mut Random::numbered(1, number)));
+    let mut times = [0, 0];
+    for case in stored.chain(random) {
+        let input = take_apart(&case).1;
+        let (_, records) = split(input);
+        let [first, second] = rounds(&case);
+        let calls = met(input);
+        assert!(calls.iter().map(|call| call.outcome).eq(first.calls));
+        // The second round has the same calls on what the first wrote.
+        let image = &first.buffer[..first.written.count];
+        let again = met(&[&(image.len() as u16).to_be_bytes(), image, records].concat());
+        assert!(again.iter().map(|call| call.outcome).eq(second.calls));
+        for (times, calls) in times.iter_mut().zip([calls, again]) {
+            calls.iter().for_each(Met::check);
+            *times += calls.iter().filter(|call| call.given()).count();
+        }
+    }
+    assert!(times.iter().all(|&times| times >= 30), "{times:?}");
+}
+
+/// The stored runs that are about named domains, all of which are written by hand.
+fn by_hand() -> Vec<cases::Case> {
+    let runs: Vec<_> = cases::all().into_iter().filter(|case| case.purpose.starts_with("named: ")).collect();
+    assert!(runs.len() >= 10 && runs.iter().all(|case| case.named.is_some()));
+    runs
+}
+
+fn met_by_hand() -> Vec<Met> {
+    by_hand().iter().flat_map(|case| met(&case.input)).collect()
+}
+
+#[test]
+fn every_domain_is_named_by_hand_with_each_right_and_each_width() {
+    let mut reached = BTreeSet::new();
+    for call in met_by_hand() {
+        reached.extend(call.outcome.named().map(|domain| (call.record[0], call.right(), domain.0)));
+    }
+    let all = [1, 13].into_iter().flat_map(|kind| [READ, WRITE].map(|right| (kind, right)));
+    assert_eq!(reached, all.flat_map(|(kind, right)| (0..16).map(move |s| (kind, right, s))).collect());
+}
+
+#[test]
+fn stored_runs_go_across_edges_whose_pages_give_through_different_domains() {
+    // The first page through the higher domain, the second, and a shared domain that neither names.
+    let (mut by_first, mut by_second, mut shared) = ([0, 0], [0, 0], [0, 0]);
+    for call in met_by_hand() {
+        let Some((first, second)) = givers(&call.before, &call.record) else {
+            continue;
+        };
+        assert_eq!(call.outcome, Outcome::Access(0, Some(first)));
+        let right = usize::from(call.right());
+        by_first[right] += usize::from(first.0 < second.0);
+        by_second[right] += usize::from(second.0 < first.0);
+        let behind = call.before.field(call.right(), call.before.page_of(call.address() + 1));
+        let both = prevailing(call.field() & behind & call.before.local_context());
+        shared[right] += usize::from(both.is_some_and(|both| both != first && both != second));
+    }
+    for counts in [by_first, by_second, shared] {
+        assert!(counts.iter().all(|&times| times >= 5), "{by_first:?}, {by_second:?}, {shared:?}");
+    }
+}
+
+/// The lowest-numbered bit, by another way than the machine's.
+fn lowest(bits: u16) -> Option<u16> {
+    (bits != 0).then(|| bits.trailing_zeros() as u16)
+}
+
+fn highest(bits: u16) -> Option<u16> {
+    (bits != 0).then(|| 15 - bits.leading_zeros() as u16)
+}
+
+/// A wrong way to name a domain, for an access that was given, and what it is called.
+type Misreading = (&'static str, fn(&Met) -> Option<u16>);
+
+const MISREADINGS: [Misreading; 18] = [
+    ("the field alone", |call| lowest(call.field())),
+    ("the context alone", |call| lowest(call.before.context)),
+    ("the mask alone", |call| lowest(call.before.mask)),
+    ("the local context alone", |call| lowest(call.before.local_context())),
+    ("field and context", |call| lowest(call.field() & call.before.context)),
+    ("field and mask", |call| lowest(call.field() & call.before.mask)),
+    ("the field where the local context holds its prevailing domain, else none", |call| {
+        lowest(call.field()).filter(|s| call.before.local_context() & (1 << s) != 0)
+    }),
+    ("the highest-numbered", |call| highest(call.field() & call.before.local_context())),
+    ("the other right", |call| lowest(call.of(1 - call.right(), 0))),
+    ("either right", |call| lowest(call.of(READ, 0) | call.of(WRITE, 0))),
+    ("the page behind", |call| lowest(call.of(call.right(), call.size()))),
+    ("the page in front", |call| lowest(call.of(call.right(), -call.size()))),
+    ("the last byte", |call| lowest(call.of(call.right(), call.last()))),
+    ("the higher of both bytes", |call| lowest(call.of(call.right(), 0) | call.of(call.right(), call.last()))),
+    ("the lower of both bytes", |call| {
+        lowest(call.of(call.right(), 0)).max(lowest(call.of(call.right(), call.last())))
+    }),
+    ("what both bytes share", |call| lowest(call.of(call.right(), 0) & call.of(call.right(), call.last()))),
+    ("the stored registers", |call| {
+        let entry = call.before.programs[call.before.current];
+        lowest(call.field() & entry.context & entry.mask)
+    }),
+    ("counted from 15", |call| lowest(call.field() & call.before.local_context()).map(|s| 15 - s)),
+];
+
+impl Met {
+    fn size(&self) -> i64 {
+        self.before.page_size() as i64
+    }
+
+    /// How far behind the first byte the last one is.
+    fn last(&self) -> i64 {
+        i64::from(self.record[0] == 13)
+    }
+
+    /// What a page, so many bytes off, shares with the local context for a right. It is nothing
+    /// outside memory.
+    fn of(&self, right: u8, off: i64) -> u16 {
+        let byte = self.address().wrapping_add_signed(off);
+        if byte >= self.before.memory() {
+            return 0;
+        }
+        self.before.field(right, self.before.page_of(byte)) & self.before.local_context()
+    }
+}
+
+#[test]
+fn each_misreading_of_the_named_domain_shows_in_the_runs_by_hand() {
+    let calls: Vec<Met> = met_by_hand().into_iter().filter(Met::given).collect();
+    for (what, misread) in MISREADINGS {
+        for right in [READ, WRITE] {
+            // What is wrong with two bytes alone cannot show with one.
+            let of_right = |kind: u8| calls.iter().filter(move |call| call.right() == right && call.record[0] == kind);
+            let differs = |call: &&Met| misread(call) != call.outcome.named().map(|domain| domain.0);
+            let (one, two) = (of_right(1).filter(differs).count(), of_right(13).filter(differs).count());
+            assert!(two >= 3 && (one >= 3 || what.contains("byte")), "{what}, right {right}: {one}, {two}");
+        }
+    }
+}
+
+/// By hand, a call of each sort that names none stands straight behind one that names domain 0, and
+/// behind one that names a domain above 9.
+#[test]
+fn none_is_named_straight_after_a_domain_by_calls_of_every_sort() {
+    let mut after = [BTreeSet::new(), BTreeSet::new()];
+    for case in by_hand() {
+        for pair in met(&case.input).windows(2) {
+            let [one, next] = pair else { unreachable!("windows of two") };
+            let kept = match one.outcome.named() {
+                Some(Domain(0)) => 0,
+                Some(Domain(10..)) => 1,
+                _ => continue,
+            };
+            if next.outcome.named().is_none() {
+                after[kept].insert((next.record[0], next.outcome.number()));
+            }
+        }
+    }
+    let due = [
+        (0, 18),
+        (1, 2),
+        (1, 3),
+        (1, 9),
+        (2, 0),
+        (2, 12),
+        (3, 0),
+        (3, 11),
+        (4, 0),
+        (5, 0),
+        (6, 7),
+        (7, 7),
+        (8, 7),
+        (9, 7),
+        (10, 7),
+        (11, 7),
+        (12, 7),
+        (13, 2),
+        (13, 3),
+        (13, 9),
+        (14, 18),
+        (255, 18),
+    ];
+    for kept in after {
+        assert!(due.iter().all(|sort| kept.contains(sort)), "{kept:?}");
+    }
+}
+
+#[test]
+fn the_line_of_a_call() {
+    assert_eq!(Outcome::Access(0, Some(Domain(0))).line(0), "1 0 0\n");
+    assert_eq!(Outcome::Access(0, Some(Domain(15))).line(98), "99 0 15\n");
+    assert_eq!(Outcome::Access(0, None).line(99), "100 0 -\n");
+    assert_eq!(Outcome::Access(9, None).line(1), "2 9 -\n");
+    assert_eq!(Outcome::Number(18).line(4), "5 18 -\n");
+    let violation = Violation { program: 1, right: WRITE, address: 7 };
+    assert_eq!(Outcome::Question(0, Some(violation)).line(0), "1 0 -\n");
+}
+
+#[test]
+fn the_bench_gets_no_domain() {
+    let image = sample().image();
+    // Page 1 through domain 1, for each right, and then in an interrupt.
+    let records = [[1, 0, 0, 0, 1, 0], [13, 1, 0, 0, 1, 0], [5, 0, 0, 0, 0, 0], [1, 0, 0, 0, 1, 0]].concat();
+    let input = [&[0, 44], &image[..], &records].concat();
+    assert_eq!(answers(&input), [0, 0, 0, 0, 0]);
+    assert_eq!(text(&input), "load 0\n1 0 1\n2 0 1\n3 0 -\n4 0 -\n");
+}
+
+#[test]
+fn random_runs_name_every_domain_in_a_short_file() {
+    for seed in 1..=20 {
+        let file = cases::many::file(seed, 300).expect("each domain comes often");
+        assert!(file.len() <= 200_000, "seed {seed}");
+        let cases = stored::cases(&file);
+        assert_eq!(cases.len(), 300);
+        assert!(cases.iter().all(|&(kind, input)| kind == RUN && load(split(input).0).is_ok()));
+    }
+    assert_eq!(cases::many::file(1, 0), Ok(vec![]));
+    assert!(cases::many::file(1, 3).is_ok());
+    let rare = Counts::default().rare();
+    assert!(rare.starts_with("runs-random: domain 0 was named 0 times, fewer than 20\n"));
+    assert!(rare.ends_with(
+        "runs-random: domain 15 was named 0 times, fewer than 20
+runs-random: two pages gave, the first through a higher domain, 0 times, fewer than 20
+runs-random: two pages gave, the second through a higher domain, 0 times, fewer than 20
+"
+    ));
+    assert_eq!(rare.lines().count(), 18);
+    let enough = Counts { named: [20; 16], apart: [20; 2] };
+    assert_eq!(enough.rare(), "");
+    let mut few = enough;
+    few.named[7] = 19;
+    assert_eq!(few.rare(), "runs-random: domain 7 was named 19 times, fewer than 20\n");
+}
+
 /// A file of cases of writing alone.
 fn writings(cases: &[&[u8]]) -> Vec<u8> {
     stored::file(cases.iter().map(|&case| (WRITING, case)))
@@ -646,7 +962,7 @@ fn the_text_of_two_rounds() {
                  00 09 00 00 00 0A 00 02 00 0C 00 04 00 07 00 07 00 00 08 FF FF 00 EE";
     let calls = [4, 0, 0, 0, 0, 7, 6, 0, 0, 0, 0, 0, 5];
     let good = [&[0, 45, 0, 44], &SAMPLE[..], &calls].concat();
-    let round = format!("load 0\n1 0\n2 7\nwrite 0 44\n{image}\n");
+    let round = format!("load 0\n1 0 -\n2 7 -\nwrite 0 44\n{image}\n");
     let nothing = "load 20\nwrite 1 0\n";
     let short = format!("{nothing}EE EE EE\n");
     let none = format!("{nothing}\n");
@@ -654,7 +970,7 @@ fn the_text_of_two_rounds() {
     assert_eq!(stored::text(&writings(&[&good[..], &[0, 3, 0, 0], &[]])), due);
 
     let not_at_rest = [&[0, 2, 0, 44], &SAMPLE[..], &[5, 0, 0, 0, 0, 0]].concat();
-    let due = format!("case 1\nload 0\n1 0\nwrite 26 0\nEE EE\n{nothing}EE EE\n");
+    let due = format!("case 1\nload 0\n1 0 -\nwrite 26 0\nEE EE\n{nothing}EE EE\n");
     assert_eq!(stored::text(&writings(&[&not_at_rest[..]])), due);
 }
 
@@ -679,23 +995,23 @@ fn the_text_of_questions() {
     .concat();
     let input = [&[0, 44], &SAMPLE[..], &calls].concat();
     let round = "load 0
-1 7
+1 7 -
 none
-2 0
-3 0
+2 0 -
+3 0 -
 none
-4 0
-5 0
-6 9
-7 7
+4 0 -
+5 0 -
+6 9 -
+7 7 -
 none
-8 0
-9 0
+8 0 -
+9 0 -
 denied 1 1 261
-10 0
-11 0
+10 0 -
+11 0 -
 denied 1 1 261
-12 0
+12 0 -
 ";
     let image = "01 00 00 12 00 04 02 00 00 16 00 0C 03 00 00 22 00 0A 03 08 02 00 \
                  00 09 00 00 00 0A 00 02 00 0C 00 04 00 07 00 03 00 00 08 FF FF 00";
@@ -707,8 +1023,8 @@ denied 1 1 261
     );
     assert_eq!(stored::text(&writings(&[&good[..], &short])), due);
 
-    // A run has the numbers alone.
-    let numbers = "load 0\n1 7\n2 0\n3 0\n4 0\n5 0\n6 9\n7 7\n8 0\n9 0\n10 0\n11 0\n12 0\n";
+    // A run has no line for what a question hands out, and a question names no domain.
+    let numbers = "load 0\n1 7 -\n2 0 -\n3 0 -\n4 0 -\n5 0 -\n6 9 -\n7 7 -\n8 0 -\n9 0 -\n10 0 -\n11 0 -\n12 0 -\n";
     assert_eq!(text(&input), numbers);
     assert_eq!(stored::text(&stored::file([(RUN, &input[..])])), format!("case 1\n{numbers}"));
     assert_eq!(answers(&input), [0, 7, 0, 0, 0, 0, 9, 7, 0, 0, 0, 0, 0]);

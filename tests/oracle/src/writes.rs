@@ -1,18 +1,20 @@
 //! The stored cases of writing, in a fixed order. Each says what it is for and, by hand from
 //! the rules, what is due in its two rounds: the answers, the line of each question for the last
 //! violation, the writer's number and count, and bytes of the buffer, all of them or those that
-//! matter.
+//! matter. Some also say which domain each call names.
 
 mod inputs;
 mod live;
 pub mod many;
+mod named;
 mod questions;
 mod rest;
 mod shapes;
 mod switches;
 mod two_bytes;
 
-use crate::cases::{sample, Step};
+use crate::cases::{names, sample, Step};
+use crate::machine::Named;
 use crate::random::Random;
 use crate::rounds::{self, Round, FILLING};
 use crate::write::*;
@@ -26,6 +28,8 @@ pub struct Due {
     pub calls: Vec<u8>,
     /// The line of each question, in the order of the calls.
     pub hand_outs: Vec<String>,
+    /// The domain that each call names or none, where that is written by hand too.
+    pub named: Option<Vec<Named>>,
     pub written: Written,
     pub bytes: Vec<(usize, Vec<u8>)>,
 }
@@ -41,7 +45,7 @@ pub struct Case {
 impl Due {
     fn new(load: u8, calls: Vec<u8>, number: u8, count: usize, bytes: &[Bytes]) -> Due {
         let bytes = bytes.iter().map(|&(at, text)| (at, from_hex(text))).collect();
-        Due { load, calls, hand_outs: vec![], written: Written { number, count }, bytes }
+        Due { load, calls, hand_outs: vec![], named: None, written: Written { number, count }, bytes }
     }
 
     /// The second round after a refused write: an empty image.
@@ -53,6 +57,9 @@ impl Due {
         assert_eq!(round.load, self.load, "{what}: load");
         assert_eq!(round.numbers(), self.calls, "{what}: calls");
         assert_eq!(round.hand_outs(), self.hand_outs, "{what}: what the questions handed out");
+        if let Some(named) = &self.named {
+            assert_eq!(&round.named(), named, "{what}: the domains that the calls name");
+        }
         assert_eq!(round.written, self.written, "{what}: write");
         assert_eq!(round.buffer.len(), room, "{what}: buffer");
         for (at, bytes) in &self.bytes {
@@ -102,6 +109,20 @@ impl Case {
         for due in self.due().iter_mut().filter(|due| due.load == 0) {
             due.hand_outs = lines.iter().map(|line| line.to_string()).collect();
         }
+        self
+    }
+
+    /// Says what each call names, in every round that has calls.
+    fn naming(&mut self, numbers: &[Option<u16>]) -> &mut Case {
+        for due in self.due().iter_mut().filter(|due| due.load == 0) {
+            due.named = Some(names(numbers));
+        }
+        self
+    }
+
+    /// Says what each call of the second round names where it is not the same.
+    fn then_naming(&mut self, numbers: &[Option<u16>]) -> &mut Case {
+        self.due()[1].named = Some(names(numbers));
         self
     }
 
@@ -215,6 +236,7 @@ pub fn all() -> Vec<Case> {
     inputs::add(&mut writes);
     questions::add(&mut writes);
     two_bytes::add(&mut writes);
+    named::add(&mut writes);
     for seed in 1..=8 {
         let bytes = many::case(&mut Random::new(seed));
         writes.list.push(Case { purpose: format!("a random case, seed {seed}"), bytes, due: None });

@@ -3,12 +3,12 @@
 //! in the cases of writing.
 
 use super::kernel::{in_privileged_mode, privileged_second};
-use super::{clear_flag, field_is, mask_is, sample, small, turn, Cases, Step};
+use super::{clear_flag, field_is, mask_is, naming_none, sample, small, turn, Cases, NamedStep, Step};
 use crate::write::*;
 
 pub fn add(cases: &mut Cases) {
     for exponent in 5..=12 {
-        cases.run(&edge_purpose(exponent), &node_of_letters(exponent), &all_edges(exponent));
+        cases.named_run(&edge_purpose(exponent), &node_of_letters(exponent), &all_edges(exponent));
     }
     within_a_page(cases);
     ends_of_memory(cases);
@@ -65,28 +65,39 @@ fn tried(record: Record, all_give: bool) -> Vec<Step> {
     }
 }
 
+/// The same, with what the access names where it is allowed: the one domain through which the page
+/// of its first byte gives, of those that `node_of_letters` hands round.
+fn tried_from(page: u32, record: Record, all_give: bool) -> Vec<NamedStep> {
+    let mut steps = naming_none(&tried(record, all_give));
+    if all_give {
+        steps[0].2 = Some([4, 5, 6, 7][page as usize % 4]);
+    }
+    steps
+}
+
 /// At each edge: the last two bytes in front of it, one byte on each side, and the first two
 /// behind it. At the first and the last edge also the single bytes next to it.
-fn all_edges(exponent: u8) -> Vec<Step> {
+fn all_edges(exponent: u8) -> Vec<NamedStep> {
     let (count, size) = (page_count(exponent), 1u32 << exponent);
     let mut steps = Vec::new();
     for page in 1..count {
         let edge = page * size;
         let (front, behind) = (letter(exponent, page - 1), letter(exponent, page));
         let right = right_alone(front, behind);
-        steps.extend(tried(access_two(right, edge - 2), gives(front, right)));
+        steps.extend(tried_from(page - 1, access_two(right, edge - 2), gives(front, right)));
         let right = right_across(count, page, front, behind);
-        steps.extend(tried(access_two(right, edge - 1), gives(front, right) && gives(behind, right)));
+        let both_give = gives(front, right) && gives(behind, right);
+        steps.extend(tried_from(page - 1, access_two(right, edge - 1), both_give));
         if page == 1 || page == count - 1 {
-            steps.extend(tried(access(right, edge - 1), gives(front, right)));
-            steps.extend(tried(access(right, edge), gives(behind, right)));
+            steps.extend(tried_from(page - 1, access(right, edge - 1), gives(front, right)));
+            steps.extend(tried_from(page, access(right, edge), gives(behind, right)));
         }
         let right = right_alone(behind, front);
-        steps.extend(tried(access_two(right, edge), gives(behind, right)));
+        steps.extend(tried_from(page, access_two(right, edge), gives(behind, right)));
     }
     // There is no page behind the last one.
-    steps.push((read_two(count * size - 1), 3));
-    steps.push((write_two(count * size - 1), 3));
+    steps.push((read_two(count * size - 1), 3, None));
+    steps.push((write_two(count * size - 1), 3, None));
     steps
 }
 

@@ -8,8 +8,8 @@ use crate::run::split;
 use crate::stored;
 use crate::write::*;
 
-/// From so many cases on, each of the writer's numbers and both sorts of lines that a question
-/// prints must have come often.
+/// From so many cases on, each of the writer's numbers, both sorts of lines that a question
+/// prints and accesses that name a domain must have come often.
 const ENOUGH_RUNS: u64 = 400;
 /// What came fewer times than this was not tried well.
 const LEAST: usize = 20;
@@ -34,7 +34,7 @@ pub fn file(seed: u64, runs: u64) -> Result<Vec<u8>, String> {
 /// What came too rarely in these rounds, a line for each.
 pub fn rare(rounds: impl Iterator<Item = Round>) -> String {
     let mut written = NUMBERS.map(|number| (number, 0));
-    let (mut denied, mut none) = (0, 0);
+    let (mut denied, mut none, mut named) = (0, 0, 0);
     for round in rounds {
         for (number, times) in &mut written {
             *times += usize::from(round.written.number == *number);
@@ -43,11 +43,13 @@ pub fn rare(rounds: impl Iterator<Item = Round>) -> String {
         let of_none = lines.iter().filter(|&line| line == "none").count();
         none += of_none;
         denied += lines.len() - of_none;
+        named += round.named().iter().flatten().count();
     }
     let answers = written.map(|(number, times)| (format!("the writer answered {number}"), times));
     let hand_outs =
         [("denied", denied), ("none", none)].map(|(line, times)| (format!("a question gave `{line}`"), times));
-    let rare = answers.into_iter().chain(hand_outs).filter(|(_, times)| *times < LEAST);
+    let named = [(String::from("an access named a domain"), named)];
+    let rare = answers.into_iter().chain(hand_outs).chain(named).filter(|(_, times)| *times < LEAST);
     rare.map(|(what, times)| format!("writes-random: {what} {times} times, fewer than {LEAST}\n")).collect()
 }
 
