@@ -150,14 +150,7 @@ fn any_denied(
 }
 
 // What an access reports: where it names a domain, the one through which the page of its first byte gives the right (RULES 3.3).
-fn named(
-    names: bool,
-    fields: &[u16],
-    exponent: u8,
-    local: u16,
-    right: u8,
-    address: u32,
-) -> Report
+fn named(names: bool, fields: &[u16], exponent: u8, local: u16, right: u8, address: u32) -> Report
     ensures { λ r. ⌜ r ≡ pick names (Through (asDomain (givingDomain (getD (now (fields .entry)) (placeOf right (address / 2 ^ exponent)) 0) local))) Nothing ⌝ }
 {
     if !names {

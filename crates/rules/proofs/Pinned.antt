@@ -7,7 +7,7 @@ use mathlib.Core.List.{List, [], _∷_, map}
 use lib.Count.{trailingZeros}
 use Rattle.rules.specs.Refusals.{first, pick, _⇒_}
 use Rattle.rules.specs.Registers.{isPrivileged, modeWhere, localContext, withContext, withMask, withMode, withPending, maskedOf}
-use Rattle.rules.specs.Domains.{isDomain, domainBit, holds, prevailing, isOutside, isNotLower, withBit, withoutBit}
+use Rattle.rules.specs.Domains.{isDomain, domainBit, holds, prevailing, givingDomain, isOutside, isNotLower, withBit, withoutBit}
 use Rattle.rules.specs.declared.registers.Mode.{Mode}
 use Rattle.rules.specs.declared.registers.Mode.the-variants.{User, Privileged}
 use Rattle.rules.specs.declared.registers.Registers.{Registers}
@@ -60,6 +60,15 @@ pub prevailing-each :
     × (prevailing 0 ≡ Absent)
 unfolding prevailing trailingZeros
 prevailing-each = (refl, refl, refl)
+
+-- the domain through which a field gives a right: each one alone, the lowest of those that both hold where each holds lower ones, and 16 where they share none
+pub giving-each :
+    (map (λ (bit : ℕ). givingDomain bit 65535) bits ≡ sixteen)
+    × (givingDomain 12 10 ∷ givingDomain 6 12 ∷ givingDomain 3 2 ∷ givingDomain 0x0A36 0xFF88 ∷ givingDomain 0x8100 0xFE00 ∷ givingDomain 0x4080 0xC001 ∷ []
+    ≡ 3 ∷ 2 ∷ 1 ∷ 9 ∷ 15 ∷ 14 ∷ [])
+    × (givingDomain 0 65535 ∷ givingDomain 8 7 ∷ givingDomain 0x0100 0 ∷ [] ≡ 16 ∷ 16 ∷ 16 ∷ [])
+unfolding givingDomain trailingZeros
+giving-each = (refl, refl, refl)
 
 -- an absent prevailing domain is outside every context, and no domain is of lower level than it; another is outside where the context lacks
 -- it, and only higher numbers are of lower level
