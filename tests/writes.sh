@@ -1,7 +1,7 @@
 #!/usr/bin/env bash
-# Holds the writer of images, the calls by value and what the question for the last violation hands out to the independent program on random cases: an image is
+# Holds the writer of images, the calls by value with what they name, and what the question for the last violation hands out, to the independent program on random cases: an image is
 # loaded, calls are made on it, it is written into a buffer, and what was written is loaded, called and written again. A file that gives one of the writer's
-# numbers, or a violation or none, too seldom is refused by the independent program.
+# numbers, a violation or none, or a named domain too seldom is refused by the independent program.
 # Usage: writes.sh CASES ORACLE
 set -eu
 cases=$1

@@ -210,13 +210,22 @@ impl Machine {
         )
     }
 
-    // The access on lent fields (RULES 2.10). The machine that comes back keeps its own.
+    // The access on lent fields (RULES 2.10). The machine that comes back keeps its own. What is named is worked out before a violation is kept: the other way round
+    // an access of a run took two instructions more, though nobody looks at it there (docs/PERFORMANCE.md).
     pub fn access_lent(mut self, fields: &[u16], width: Width, right: u8, address: u32) -> Answered
         ensures { λ r. ⌜ r ≡ keeping self (uncheckedOf (withFields (now (fields .entry)) self) (Call.Access width right address)) ⌝ }
     {
         let registers = self.registers;
         let number = self.access_at(fields, width, right, address);
         let after = registers.or_where(number == 9, registers.with_pending(true));
+        let report = named(
+            (number == 0) & !registers.privileged(),
+            fields,
+            self.exponent,
+            registers.local(),
+            right,
+            address,
+        );
         let mut violations = self.violations;
         if number == 9 {
             violations = Violations {
@@ -227,14 +236,6 @@ impl Machine {
                 }),
             };
         }
-        let report = named(
-            (number == 0) & !registers.privileged(),
-            fields,
-            self.exponent,
-            registers.local(),
-            right,
-            address,
-        );
         self.registers = after;
         self.violations = violations;
         Answered {

@@ -20,7 +20,6 @@ returns c =
     let asking : tie.After-privileged = (search) in
     let local : tie.After-local = (search) in
     let naming : tie.After-named = (search) in
-    let joining : tie.Joined1 = (search) in
     let a = start .args in
     let n = numbering .access-at .result in
     ap (keeping (a .self))
@@ -28,7 +27,7 @@ returns c =
     (numbering .access-at .ensures)
     (rw (choosing .or-where .ensures, choosing .before .with-pending .ensures))
     (⊎-elim (λ w. ap (λ (v : Violations). v .last) (w .1) ∙ rw (eq-eqb n 9 (w .0 .taken))) (λ w. ap (λ (v : Violations). v .last) (w .1) ∙ rw (ne-eqb n 9 (w .0 .left)))
-    (joining .if1 .came))
+    (c .if1 .came))
     (naming .named .ensures ∙ rw (local .local .ensures, asking .privileged .ensures)))
 
 pub access-lent-spec : {M : Type 1} → statement M
