@@ -149,14 +149,13 @@ fn any_denied(
     }
 }
 
-// What an access reports: where it names a domain, the one through which the page of its first byte gives the right (RULES 3.3).
-fn named(names: bool, fields: &[u16], exponent: u8, local: u16, right: u8, address: u32) -> Report
-    ensures { λ r. ⌜ r ≡ pick names (Through (asDomain (givingDomain (getD (now (fields .entry)) (placeOf right (address / 2 ^ exponent)) 0) local))) Nothing ⌝ }
+// What an access reports, from the field of its first byte's page: where it names a domain, the one through which that page gives the right (RULES 3.3).
+fn named(names: bool, field: u16, local: u16) -> Report
+    ensures { λ r. ⌜ r ≡ pick names (Through (asDomain (givingDomain field local))) Nothing ⌝ }
 {
     if !names {
         return Report::Nothing;
     }
-    let field = field_at(fields, exponent, right, address, 0);
     Report::Through(Domain(giving_domain(field, local)))
 }
 
@@ -210,23 +209,21 @@ impl Machine {
         )
     }
 
-    // The access on lent fields (RULES 2.10). The machine that comes back keeps its own. What is named is worked out before a violation is kept: the other way round
-    // an access of a run took two instructions more, though nobody looks at it there (docs/PERFORMANCE.md).
+    // The access on lent fields (RULES 2.10). The machine that comes back keeps its own. The first byte's field is read whether or not a domain is named, and before a
+    // violation is kept: in other places it costs a run, or calls by value, more (docs/PERFORMANCE.md).
     pub fn access_lent(mut self, fields: &[u16], width: Width, right: u8, address: u32) -> Answered
         ensures { λ r. ⌜ r ≡ keeping self (uncheckedOf (withFields (now (fields .entry)) self) (Call.Access width right address)) ⌝ }
     {
         let registers = self.registers;
         let number = self.access_at(fields, width, right, address);
         let after = registers.or_where(number == 9, registers.with_pending(true));
+        let mut violations = self.violations;
+        let field = field_at(fields, self.exponent, right, address, 0);
         let report = named(
             (number == 0) & !registers.privileged(),
-            fields,
-            self.exponent,
+            field,
             registers.local(),
-            right,
-            address,
         );
-        let mut violations = self.violations;
         if number == 9 {
             violations = Violations {
                 last: LastViolation::Was(Violation {

@@ -1,7 +1,6 @@
--- `machine::calls::named` meets its contract: the byte that stands 0 ahead of an address is the one at it.
+-- `machine::calls::named` meets its contract, by whether a domain is named.
 use borrow.Author.Needs.{needs}
 use borrow.Author.Tests.{not-true, not-false}
-use native.Mathlib.Nat.{add-zero}
 use Rattle.machine.proofs.calls.named.Statement.{statement}
 use Rattle.machine.proofs.calls.named.Tie as tie
 
@@ -11,9 +10,7 @@ returns c = let start : tie.Start = (search) in rw (not-true (start .args .names
 returns-2 : tie.Need-returns-2
 returns-2 c =
     let start : tie.Start = (search) in
-    let testing : tie.Else1 = (search) in
-    let reading : tie.After-field-at = (search) in
-    rw (not-false (start .args .names) (testing .if1 .left), c .giving-domain .ensures, reading .field-at .ensures, add-zero (start .args .address))
+    rw (not-false (start .args .names) (c .before .if1 .left), c .giving-domain .ensures)
 
 pub named-spec : {M : Type 1} → statement M
-named-spec = tie.close (tie.spec returns (λ c κs. search needs) (λ c κs. search needs) returns-2)
+named-spec = tie.close (tie.spec returns (λ c κs. search needs) returns-2)

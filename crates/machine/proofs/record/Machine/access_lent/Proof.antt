@@ -3,6 +3,7 @@
 use mathlib.Core.Path.{ap, _∙_}
 use mathlib.Core.Logic.{⊎-elim}
 use borrow.Author.Tests.{eq-eqb, ne-eqb}
+use native.Mathlib.Nat.{add-zero}
 use Rattle.machine.specs.Machine.{withFields}
 use Rattle.machine.specs.Calls.{keeping, checksOf}
 use Rattle.machine.specs.declared.record.Violations.{Violations}
@@ -17,6 +18,7 @@ returns c =
     let start : tie.Start = (search) in
     let numbering : tie.After-access-at = (search) in
     let choosing : tie.After-or-where = (search) in
+    let reading : tie.After-field-at = (search) in
     let asking : tie.After-privileged = (search) in
     let local : tie.After-local = (search) in
     let naming : tie.After-named = (search) in
@@ -28,7 +30,8 @@ returns c =
     (rw (choosing .or-where .ensures, choosing .before .with-pending .ensures))
     (⊎-elim (λ w. ap (λ (v : Violations). v .last) (w .1) ∙ rw (eq-eqb n 9 (w .0 .taken))) (λ w. ap (λ (v : Violations). v .last) (w .1) ∙ rw (ne-eqb n 9 (w .0 .left)))
     (c .if1 .came))
-    (naming .named .ensures ∙ rw (local .local .ensures, asking .privileged .ensures)))
+    (naming .named .ensures ∙ rw (reading .field-at .ensures, add-zero (a .address), local .local .ensures, asking .privileged .ensures)))
 
 pub access-lent-spec : {M : Type 1} → statement M
-access-lent-spec = tie.close (tie.spec (λ c κs. search needs) (λ c κs. search needs) (λ c κs. search needs) (λ c κs. search needs) (λ c κs. search needs) (λ c κs. search needs) returns)
+access-lent-spec = tie.close (tie.spec (λ c κs. search needs) (λ c κs. search needs) (λ c κs. search needs) (λ c κs. search needs) (λ c κs. search needs) (λ c κs. search needs)
+    (λ c κs. search needs) returns)
