@@ -1,4 +1,4 @@
--- Through which domain an access goes (RULES 1.17, 2.13, 3.3): where a domain is named and where none, which one it is, and of two bytes whose. By the
+-- Through which domain an access goes (RULES 1.17, 2.13, 3.3): where a domain is named and where none, which one it is, and that it is the first byte's. By the
 -- conditions of an accepted access, which are not met, and the law of the giving domain.
 use Prim.Native.Nat.{ℕ, _^_, _/_, _<_}
 use mathlib.Core.Path.{_≡_, refl, ap, sym}
@@ -21,7 +21,7 @@ use Rattle.machine.specs.declared.record.LastViolation.the-variants.{Abs
 use Rattle.machine.specs.declared.record.Report.{Report}
 use Rattle.machine.specs.declared.record.Report.the-variants.{Nothing, Denied, Through}
 use Rattle.machine.specs.declared.record.Width.{Width}
-use Rattle.machine.specs.declared.record.Width.the-variants.{One, Two}
+use Rattle.machine.specs.declared.record.Width.the-variants.{One}
 use Rattle.machine.specs.declared.record.Call.{Call}
 use Rattle.machine.specs.declared.record.Call.the-variants.{Access, Grant, Revoke, SetMask, Enter, Return, Switch, StoreField, StoreContext, StoreMask, StoreMode, AskViolation}
 use Rattle.machine.proofs.Answers.{accepted}
@@ -117,17 +117,19 @@ module _ (m : Machine) (width : Width) (right address : ℕ) where
       let lowest = giving-lowest field local (omega (arith, and-le-l (m .registers .context) (m .registers .mask))) share in
       rw (← t .2) (lowest .0, lowest .2, lowest .1, lowest .3)
 
--- RULES 3.3: of two bytes it is the first one's domain
-pub named-first : (m : Machine) (right address : ℕ) → numberOf m (Access Two right address) ≡ 0
-    → callOf m (Access Two right address) .report ≡ callOf m (Access One right address) .report
+-- RULES 3.3: of whichever width, and so of two bytes, an access that is allowed names what one of its first byte names
+pub named-first : (m : Machine) (width : Width) (right address : ℕ) → numberOf m (Access width right address) ≡ 0
+    → callOf m (Access width right address) .report ≡ callOf m (Access One right address) .report
 unfolding callOf
-named-first m right address two = rw (two, allows m One right address (accepted m (Access Two right address) two .0) one)
+named-first m width right address h = rw (h, allows m One right address (accepted m (Access width right address) h .0) one)
   where
-    a : Allowed m Two right address
-    a = allowed m Two right address two
+    a : Allowed m width right address
+    a = allowed m width right address h
 
-    within : {byte : ℕ} → Touches One address byte → Touches Two address byte
-    within t = (t .0, omega (arith, t .1))
+    within : {byte : ℕ} → Touches One address byte → Touches width address byte
+    within {byte} t =
+        let here : byte ≡ address = omega (arith, t .0, t .1) in
+        rw here (first-touched width address)
 
     one : Allowed m One right address
     one =

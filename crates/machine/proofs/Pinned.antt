@@ -21,7 +21,7 @@ use Rattle.machine.specs.declared.record.Page.{Page}
 use Rattle.machine.specs.declared.record.Domain.{Domain}
 use Rattle.machine.specs.declared.record.LastViolation.{LastViolation}
 use Rattle.machine.specs.declared.record.LastViolation.the-variants.{Absent}
-use Rattle.machine.specs.declared.record.Report.the-variants.{Nothing, Denied, Through}
+use Rattle.machine.specs.declared.record.Report.the-variants.{Nothing, Denied}
 use Rattle.machine.specs.declared.record.Answered.{Answered}
 use Rattle.machine.specs.declared.record.Width.the-variants.{One, Two}
 use Rattle.machine.specs.declared.record.Call.{Call}

@@ -5,7 +5,7 @@ use mathlib.Core.Path.{_≡_, refl, sym, ap, _∙_}
 use mathlib.Core.Bool.{Bool, true, false, _&&_}
 use borrow.Author.Tests.{eqb-true, eqb-false, ne-eqb, not-false}
 use lib.Arith.{bin-ind, mod-mul}
-use lib.Bits.{bitAnd, bitOr, and-step, or-step, and-comm, and-zero-r, or-zero-r, or-mod, and-mod, and-mask, and-shr, or-shr}
+use lib.Bits.{bitAnd, bitOr, and-step, or-step, and-comm, or-zero-r, or-mod, and-mod, and-mask, and-shr, or-shr}
 use lib.Count.{trailingZeros, trailing-of-zero, under}
 use lib.Dec.{eqb}
 use lib.Pow.{pow-pos}
