@@ -68,8 +68,8 @@ pub fn prevailing_of(field: u16) -> Prevailing
     Prevailing::At(u16::trailing_zeros(field) as u16)
 }
 
-// The lowest-numbered domain that a field and a local context both hold, through which the field gives its right (RULES 1.17). The caller knows that
-// they share one: it is 16 where they do not.
+// The lowest-numbered domain that a field and a local context both hold, through which the field gives its right (RULES 1.17); 16 where they share none, which is
+// never reported.
 pub fn giving_domain(field: u16, local: u16) -> u16
     ensures { λ r. ⌜ r ≡ givingDomain field local ⌝ }
 {
