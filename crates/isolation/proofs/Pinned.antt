@@ -1,10 +1,11 @@
 -- What the definitions of the third term come to: the term itself spelled out, down to fields, tables and lists, and for written histories the
 -- turns, the calls, what is compared and what is observed, also of a program that does not open the history. The term is set equal to its spelling,
 -- so that it can ask for neither less nor more; the rest is computed.
-use Prim.Native.Nat.{ℕ, _*_, _+_, _≤_, _<_}
+use Prim.Native.Nat.{ℕ, zero, suc, _*_, _+_, _≤_, _<_}
 use mathlib.Core.Path.{_≡_, refl}
 use mathlib.Core.Bool.{true, false}
 use mathlib.Core.List.{List, [], _∷_, _++_, map}
+use lib.Bits.{bitAnd}
 use lib.Count.{trailingZeros}
 use lib.Dec.{eqb}
 use lib.ListN.{getD, replicate}
@@ -25,7 +26,7 @@ use Rattle.machine.specs.declared.record.Call.the-variants.{Access, Enter, Gran
 use Rattle.machine.proofs.Written.{stored, live, whole}
 use Rattle.image.specs.Load.{loadOf}
 use Rattle.isolation.specs.Histories.{Command, access, grant, revoke, setMask, History, Made, Turn, TurnCalls, callsOf, commandCall, turnCalls, turnsOf}
-use Rattle.isolation.specs.Isolation.{Apart, InTable, Isolated, Observation, ThirdDemand, contextOf, observed, observedFrom, ownTurns, rightsOf, takenOut}
+use Rattle.isolation.specs.Isolation.{Apart, InTable, Isolated, Observation, ThirdDemand, contextOf, observed, observedFrom, ownTurns, rightsBelow, rightsOf, takenOut}
 
 abbrev unused : Program
 unused = stored 0 0 User
@@ -180,3 +181,25 @@ pub observed-spelled : (chosen context : ℕ) (m : Machine) (program : ℕ) (cal
     observedFrom chosen context m (made program call ∷ rest) ≡ pick (eqb program chosen) (all ∷ next) next
 unfolding observedFrom
 observed-spelled chosen context m program call rest = refl
+
+-- the rights of any context to every page of any machine, page by page, READ before WRITE
+pub rights-spelled : (page context : ℕ) (m : Machine)
+    → (rightsOf context m ≡ rightsBelow (m .pages) context m)
+    × (rightsBelow zero context m ≡ [])
+    × (rightsBelow (suc page) context m
+    ≡ rightsBelow page context m ++ bitAnd (getD (m .fields) (2 * page + 0) 0) context ∷ bitAnd (getD (m .fields) (2 * page + 1) 0) context ∷ [])
+unfolding rightsOf
+rights-spelled page context m = (refl, refl, refl)
+
+-- any list of turns, one by one: whether they are of programs in the table, which are the chosen program's, the calls that they make, and that without a call
+-- nothing is shown
+pub lists-spelled : (start m : Machine) (chosen context : ℕ) (one : Turn) (others : List Turn) (first : TurnCalls) (rest : List TurnCalls)
+    → (InTable start [] ≡ Unit)
+    × (InTable start (one ∷ others) ≡ ((one .program < start .programs) × InTable start others))
+    × (takenOut chosen [] ≡ [])
+    × (takenOut chosen (first ∷ rest) ≡ pick (eqb (first .program) chosen) (first .calls ∷ takenOut chosen rest) (takenOut chosen rest))
+    × (callsOf [] ≡ [])
+    × (callsOf (first ∷ rest) ≡ map (made (first .program)) (first .calls) ++ callsOf rest)
+    × (observedFrom chosen context m [] ≡ [])
+unfolding observedFrom
+lists-spelled start m chosen context one others first rest = (refl, refl, refl, refl, refl, refl, refl)

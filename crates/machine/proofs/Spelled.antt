@@ -13,7 +13,7 @@ use Rattle.rules.specs.Refusals.{_⇒_, first, pick}
 use Rattle.rules.specs.declared.registers.Mode.the-variants.{User, Privileged}
 use Rattle.rules.specs.declared.registers.Registers.{Registers}
 use Rattle.rules.specs.Registers.{isPrivileged}
-use Rattle.machine.specs.Calls.{callOf, uncheckedOf, deniedBy, reportOf, checksOf, accessChecks, changeChecks, effectOf, entered, returned, switched, after}
+use Rattle.machine.specs.Calls.{callOf, uncheckedOf, keeping, deniedBy, reportOf, checksOf, accessChecks, changeChecks, effectOf, entered, returned, switched, after}
 use Rattle.machine.specs.Machine.{isSound, violationFits}
 use Rattle.machine.specs.declared.record.Machine.{Machine}
 use Rattle.machine.specs.declared.record.Page.{Page}
@@ -199,3 +199,13 @@ pub fits-spelled : (programs memory program right address : ℕ)
     → (violationFits programs memory (denied program right address) ≡ ltb program programs && leb right 1 && ltb address memory)
     × (violationFits programs memory Absent ≡ true)
 fits-spelled programs memory program right address = (refl, refl)
+
+-- what comes back of a call on lent parts, of any machine and any answer: all of the answer but that the machine keeps its own fields and stack
+pub keeping-spelled : (own : Machine) (answer : Answered)
+    → let m = answer .machine in
+    _≡_ {A = Answered} (keeping own answer) (record {
+      number = answer .number;
+      machine = holding (m .violations .last) (m .pages) (m .exponent) (own .fields) (m .registers) (m .depth) (own .saved) (m .programs) (m .current) (m .table);
+      report = answer .report;
+    })
+keeping-spelled own answer = refl
