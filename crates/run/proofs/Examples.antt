@@ -14,7 +14,7 @@ use Rattle.machine.specs.declared.record.Report.the-variants.{Nothing, Through}
 use Rattle.machine.specs.declared.record.Width.the-variants.{One, Two}
 use Rattle.machine.specs.declared.record.Call.the-variants.{Access, Grant, Revoke, SetMask, Enter, Return, Switch, StoreField, StoreContext, StoreMask, StoreMode, AskViolation}
 use Rattle.run.specs.Records.{callOfKind, callsOf, stepBy}
-use Rattle.run.specs.Run.{stepsFrom, answersOf, callAnswers, callReports, sent}
+use Rattle.run.specs.Run.{stepsFrom, answersOf, callSteps, callReports, sent}
 use Rattle.run.specs.declared.records.Decoded.the-variants.{Known, Unknown}
 
 -- a record of a kind, with right 1, A = 0x0203 and B = 0x0405
@@ -61,18 +61,18 @@ sampleInput =
 
 -- RULES 6.11: its answers
 pub sample-answered : answersOf sampleInput ≡ 0 ∷ 0 ∷ 9 ∷ 8 ∷ 0 ∷ 0 ∷ 0 ∷ 0 ∷ 9 ∷ []
-unfolding sampleInput sampleBytes callAnswers stepsFrom callsOf callOfKind stepBy loadOf loadChecks lengthTests kindTests shapeEntryTests shapeTests bodyTests describe machineOf callOf checksOf accessChecks changeChecks effectOf entered returned switched after isSound prevailing domainBit trailingZeros
+unfolding sampleInput sampleBytes callSteps stepsFrom callsOf callOfKind stepBy loadOf loadChecks lengthTests kindTests shapeEntryTests shapeTests bodyTests describe machineOf callOf checksOf accessChecks changeChecks effectOf entered returned switched after isSound prevailing domainBit trailingZeros
 sample-answered = refl
 
 -- RULES 6.11: what it reports: the first access goes through domain 0, the seventh record's through domain 3
 pub sample-reported : callReports sampleInput
     ≡ Through (asDomain 0) ∷ Nothing ∷ Nothing ∷ Nothing ∷ Nothing ∷ Nothing ∷ Through (asDomain 3) ∷ Nothing ∷ []
-unfolding sampleInput sampleBytes callReports stepsFrom callsOf callOfKind stepBy loadOf loadChecks lengthTests kindTests shapeEntryTests shapeTests bodyTests describe machineOf callOf checksOf accessChecks changeChecks effectOf entered returned switched after isSound prevailing givingDomain domainBit trailingZeros
+unfolding sampleInput sampleBytes callSteps stepsFrom callsOf callOfKind stepBy loadOf loadChecks lengthTests kindTests shapeEntryTests shapeTests bodyTests describe machineOf callOf checksOf accessChecks changeChecks effectOf entered returned switched after isSound prevailing givingDomain domainBit trailingZeros
 sample-reported = refl
 
 -- RULES 6.9: a remainder has no answer, and reports nothing
 pub remainder-answered : (answersOf (sampleInput ++ 0x01 ∷ []) ≡ 0 ∷ 0 ∷ 9 ∷ 8 ∷ 0 ∷ 0 ∷ 0 ∷ 0 ∷ 9 ∷ []) × (callReports (sampleInput ++ 0x01 ∷ []) ≡ callReports sampleInput)
-unfolding sampleInput sampleBytes callAnswers callReports stepsFrom callsOf callOfKind stepBy loadOf loadChecks lengthTests kindTests shapeEntryTests shapeTests bodyTests describe machineOf callOf checksOf accessChecks changeChecks effectOf entered returned switched after isSound prevailing givingDomain domainBit trailingZeros
+unfolding sampleInput sampleBytes callSteps stepsFrom callsOf callOfKind stepBy loadOf loadChecks lengthTests kindTests shapeEntryTests shapeTests bodyTests describe machineOf callOf checksOf accessChecks changeChecks effectOf entered returned switched after isSound prevailing givingDomain domainBit trailingZeros
 remainder-answered = (refl, refl)
 
 -- RULES 6.6: an unknown record leaves the machine alone, so that the access after it is allowed. RULES 6.2, 6.3, 6.8: a declared length of
@@ -86,7 +86,7 @@ pub ends-answered :
     ∷ []
     ∷ [])
     ≡ (0 ∷ 18 ∷ 0 ∷ []) ∷ (0 ∷ []) ∷ (24 ∷ []) ∷ (20 ∷ []) ∷ (20 ∷ []) ∷ []
-unfolding sampleBytes callAnswers stepsFrom callsOf callOfKind stepBy loadOf loadChecks lengthTests kindTests shapeEntryTests shapeTests bodyTests describe machineOf callOf checksOf accessChecks changeChecks effectOf entered returned switched after isSound prevailing domainBit trailingZeros
+unfolding sampleBytes callSteps stepsFrom callsOf callOfKind stepBy loadOf loadChecks lengthTests kindTests shapeEntryTests shapeTests bodyTests describe machineOf callOf checksOf accessChecks changeChecks effectOf entered returned switched after isSound prevailing domainBit trailingZeros
 ends-answered = refl
 
 -- RULES 7.4: the sample's nine answers in buffers about as long
@@ -96,5 +96,5 @@ room-sent = rw (ap (λ (l : List ℕ). drop 1 l) sample-answered)
 
 -- RULES 7.4: the longest input that is run, and one byte more
 pub long-sent : map (λ (n : ℕ). length (sent (replicate n 0) 1)) (32768 ∷ 32769 ∷ []) ≡ 1 ∷ 0 ∷ []
-unfolding sent callAnswers loadOf loadChecks lengthTests kindTests
+unfolding sent callSteps loadOf loadChecks lengthTests kindTests
 long-sent = refl

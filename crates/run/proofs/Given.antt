@@ -14,7 +14,7 @@ use Rattle.machine.specs.declared.record.Machine.{Machine}
 use Rattle.machine.proofs.Laws.{sound-number}
 use Rattle.image.proofs.Loaded.{loaded}
 use Rattle.run.specs.Records.{callsOf, stepBy, stepOf}
-use Rattle.run.specs.Run.{imageOf, callBytes, stepsFrom, answersFrom, callAnswers, loadedOf}
+use Rattle.run.specs.Run.{imageOf, callBytes, stepsFrom, numbersOf, callSteps, callAnswers, loadedOf}
 use Rattle.run.proofs.Steps.{step-sound}
 use Rattle.run.specs.declared.records.Decoded.{Decoded}
 use Rattle.run.specs.declared.records.Decoded.the-variants.{Known, Unknown}
@@ -28,7 +28,7 @@ step-given m (Known call) s = either (eqb (callOf m call .number) 18) (isIn (cal
     either false b h = h
 step-given m Unknown s = refl
 
-from-given : (m : Machine) (calls : List Decoded) (i : ℕ) → isSound m ≡ true → isIn (getD (answersFrom m calls) i 0) (18 ∷ soundNumbers) ≡ true
+from-given : (m : Machine) (calls : List Decoded) (i : ℕ) → isSound m ≡ true → isIn (getD (numbersOf (stepsFrom m calls)) i 0) (18 ∷ soundNumbers) ≡ true
 unfolding stepsFrom
 from-given m [] zero s = refl
 from-given m [] (suc i) s = refl
@@ -37,7 +37,7 @@ from-given m (call ∷ rest) (suc i) s = from-given (stepOf m call .machine) res
 
 -- RULES 9.3: the answer of every call of a run, 0 standing past the last: neither 1 nor 10 is among them
 pub answers-given : (input : List ℕ) (i : ℕ) → isIn (getD (callAnswers input) i 0) (18 ∷ soundNumbers) ≡ true
-unfolding callAnswers
+unfolding callSteps
 answers-given input i = split (eqb (loadedOf input .number) 0) refl
   where
     none : (j : ℕ) → isIn (getD {A = ℕ} [] j 0) (18 ∷ soundNumbers) ≡ true
@@ -45,6 +45,6 @@ answers-given input i = split (eqb (loadedOf input .number) 0) refl
     none (suc j) = refl
 
     split : (b : Bool) → eqb (loadedOf input .number) 0 ≡ b
-        → isIn (getD (pick b (answersFrom (loadedOf input .machine) (callsOf (callBytes input))) []) i 0) (18 ∷ soundNumbers) ≡ true
+        → isIn (getD (numbersOf (pick b (stepsFrom (loadedOf input .machine) (callsOf (callBytes input))) [])) i 0) (18 ∷ soundNumbers) ≡ true
     split true e = from-given (loadedOf input .machine) (callsOf (callBytes input)) i (loaded (imageOf input) (eqb-true _ 0 e) .sound)
     split false e = none i

@@ -22,7 +22,7 @@ use Rattle.machine.specs.declared.record.Width.the-variants.{One, Two}
 use Rattle.machine.specs.declared.record.Call.the-variants.{Access, Grant, Revoke, SetMask, Enter, Return, Switch, StoreField, StoreContext, StoreMask, StoreMode, AskViolation}
 use Rattle.machine.proofs.Written.{stored, live, denied, whole, gives}
 use Rattle.run.specs.Records.{callOfKind, callsOf, stepBy, stepOf, uncheckedStepOf}
-use Rattle.run.specs.Run.{stepsFrom, answersOf, callAnswers, callReports, callBytes, imageOf, isLong, nameOf, sent, sentReports}
+use Rattle.run.specs.Run.{stepsFrom, answersOf, callSteps, callReports, callBytes, imageOf, isLong, nameOf, reportNamed, sent, sentReports}
 use Rattle.run.specs.declared.records.Decoded.the-variants.{Known, Unknown}
 
 -- a right above 1 is read as it stands, every part that a call does not use is passed over, and no kind past 13 is known
@@ -106,7 +106,7 @@ pub sample-run :
     ∷ 0x07 ∷ 0x00 ∷ 0x00 ∷ 0x00 ∷ 0x00 ∷ 0x01
     ∷ 0x05 ∷ [])))
     ≡ 0 ∷ 18 ∷ 0 ∷ 0 ∷ 2 ∷ 9 ∷ 18 ∷ 8 ∷ 0 ∷ 0 ∷ 7 ∷ []
-unfolding sampleBytes callAnswers stepsFrom callsOf callOfKind stepBy loadOf loadChecks lengthTests kindTests shapeEntryTests shapeTests bodyTests describe machineOf callOf checksOf accessChecks changeChecks effectOf entered returned switched after isSound prevailing domainBit trailingZeros
+unfolding sampleBytes callSteps stepsFrom callsOf callOfKind stepBy loadOf loadChecks lengthTests kindTests shapeEntryTests shapeTests bodyTests describe machineOf callOf checksOf accessChecks changeChecks effectOf entered returned switched after isSound prevailing domainBit trailingZeros
 sample-run = refl
 
 -- accesses of two bytes on the sample: within page 0, from page 0 to page 1, of which each gives READ through a domain of its own, and from page 1 to
@@ -127,7 +127,7 @@ pub two-bytes-run :
     ∷ 0x0D ∷ 0x01 ∷ 0xFF ∷ 0xFF ∷ 0xFF ∷ 0xFF
     ∷ [])))
     ≡ 0 ∷ 0 ∷ 0 ∷ 0 ∷ 2 ∷ 3 ∷ 9 ∷ 8 ∷ 0 ∷ 0 ∷ 3 ∷ 3 ∷ []
-unfolding sampleBytes callAnswers stepsFrom callsOf callOfKind stepBy loadOf loadChecks lengthTests kindTests shapeEntryTests shapeTests bodyTests describe machineOf callOf checksOf accessChecks effectOf entered after isSound
+unfolding sampleBytes callSteps stepsFrom callsOf callOfKind stepBy loadOf loadChecks lengthTests kindTests shapeEntryTests shapeTests bodyTests describe machineOf callOf checksOf accessChecks effectOf entered after isSound
 two-bytes-run = refl
 
 -- what a run on the sample reports: accesses of one byte and of two that go through domains 0 and 1; a grant, an unknown record, a violation and an access
@@ -161,10 +161,11 @@ pub reports-run :
     × (map (sentReports input) (0 ∷ 14 ∷ 15 ∷ 16 ∷ []) ≡ [] ∷ [] ∷ reports ∷ reports ∷ [])
     × (map nameOf reports ≡ 1 ∷ 1 ∷ 2 ∷ 2 ∷ 0 ∷ 0 ∷ 0 ∷ 0 ∷ 0 ∷ 0 ∷ 0 ∷ 0 ∷ 0 ∷ 2 ∷ [])
     × (map nameOf (goes 9 ∷ goes 15 ∷ goes 65535 ∷ []) ≡ 10 ∷ 16 ∷ 65536 ∷ [])
+    × (map reportNamed (0 ∷ 1 ∷ 2 ∷ 16 ∷ 65536 ∷ []) ≡ Nothing ∷ goes 0 ∷ goes 1 ∷ goes 15 ∷ goes 65535 ∷ [])
     × (callReports (0x00 ∷ 0x2C ∷ (set sampleBytes 38 2 ++ (0x05 ∷ 0x00 ∷ 0x00 ∷ 0x00 ∷ 0x00 ∷ 0x00 ∷ []))) ≡ [])
     × (sentReports (replicate 32769 0) 9 ≡ [])
-unfolding sampleBytes callAnswers callReports sentReports stepsFrom callsOf callOfKind stepBy loadOf loadChecks lengthTests kindTests shapeEntryTests shapeTests bodyTests describe machineOf callOf checksOf accessChecks changeChecks effectOf entered returned switched after isSound prevailing givingDomain domainBit trailingZeros
-reports-run = (refl, refl, refl, refl, refl, refl)
+unfolding sampleBytes callSteps sent sentReports stepsFrom callsOf callOfKind stepBy loadOf loadChecks lengthTests kindTests shapeEntryTests shapeTests bodyTests describe machineOf callOf checksOf accessChecks changeChecks effectOf entered returned switched after isSound prevailing givingDomain domainBit trailingZeros
+reports-run = (refl, refl, refl, refl, refl, refl, refl)
 
 -- an image of 318 bytes, whose length stands in both bytes: program 0 is privileged
 pub long-run :
@@ -184,7 +185,7 @@ pub long-run :
     ∷ 0x01 ∷ 0x00 ∷ 0x00 ∷ 0x00 ∷ 0xFF ∷ 0xFF
     ∷ [])))
     ≡ 0 ∷ 0 ∷ 3 ∷ 2 ∷ 0 ∷ 4 ∷ 14 ∷ 0 ∷ 16 ∷ 0 ∷ 0 ∷ 0 ∷ 0 ∷ []
-unfolding callAnswers stepsFrom callsOf callOfKind stepBy loadOf loadChecks lengthTests kindTests shapeEntryTests shapeTests bodyTests describe machineOf callOf checksOf accessChecks changeChecks effectOf entered returned switched after isSound
+unfolding callSteps stepsFrom callsOf callOfKind stepBy loadOf loadChecks lengthTests kindTests shapeEntryTests shapeTests bodyTests describe machineOf callOf checksOf accessChecks changeChecks effectOf entered returned switched after isSound
 long-run = refl
 
 -- after each refusal of a load that one answer is all there is
@@ -200,7 +201,7 @@ pub refused-runs :
     ∷ with-entry sampleBytes
     ∷ [])
     ≡ (20 ∷ []) ∷ (21 ∷ []) ∷ (22 ∷ []) ∷ (23 ∷ []) ∷ (24 ∷ []) ∷ (25 ∷ []) ∷ (0 ∷ 0 ∷ []) ∷ []
-unfolding sampleBytes callAnswers stepsFrom callsOf callOfKind stepBy loadOf loadChecks lengthTests kindTests shapeEntryTests shapeTests bodyTests describe machineOf callOf checksOf effectOf entered after isSound
+unfolding sampleBytes callSteps stepsFrom callsOf callOfKind stepBy loadOf loadChecks lengthTests kindTests shapeEntryTests shapeTests bodyTests describe machineOf callOf checksOf effectOf entered after isSound
 refused-runs = refl
 
 -- what a buffer of a length gets, and which inputs are long
@@ -208,5 +209,5 @@ pub rooms :
     (map (sent (0x00 ∷ [])) (0 ∷ 1 ∷ 2 ∷ 255 ∷ []) ≡ [] ∷ (20 ∷ []) ∷ (20 ∷ []) ∷ (20 ∷ []) ∷ [])
     × (map (λ (n : ℕ). isLong (replicate n 0)) (0 ∷ 1 ∷ 32767 ∷ 32768 ∷ 32769 ∷ 40000 ∷ []) ≡ false ∷ false ∷ false ∷ false ∷ true ∷ true ∷ [])
     × (sent (replicate 32769 0) 9 ∷ sent (replicate 32768 0) 9 ∷ [] ≡ [] ∷ (20 ∷ []) ∷ [])
-unfolding sent callAnswers loadOf loadChecks lengthTests kindTests
+unfolding sent callSteps loadOf loadChecks lengthTests kindTests
 rooms = (refl, refl, refl)

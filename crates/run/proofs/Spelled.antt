@@ -1,6 +1,6 @@
 -- Records and runs spelled out for any input: the call of each kind, the answers in a row, and what is sent into any room. The tables of Pinned try
 -- inputs that are written out; here none is left out.
-use Prim.Native.Nat.{ℕ, suc, _+_, _*_}
+use Prim.Native.Nat.{ℕ, zero, suc, _+_, _*_}
 use mathlib.Core.Path.{_≡_, refl}
 use mathlib.Core.List.{List, [], _∷_, map}
 use lib.Dec.{leb, ltb, eqb}
@@ -12,13 +12,13 @@ use Rattle.machine.specs.Calls.{callOf, uncheckedOf}
 use Rattle.machine.specs.declared.record.Machine.{Machine}
 use Rattle.machine.specs.declared.record.Domain.{Domain}
 use Rattle.machine.specs.declared.record.Violation.{Violation}
-use Rattle.machine.specs.declared.record.Report.{Report}
+use Rattle.machine.specs.declared.record.Answered.{Answered}
 use Rattle.machine.specs.declared.record.Report.the-variants.{Nothing, Denied, Through}
 use Rattle.machine.specs.declared.record.Width.the-variants.{One, Two}
 use Rattle.machine.specs.declared.record.Call.{Call}
 use Rattle.machine.specs.declared.record.Call.the-variants.{Access, Grant, Revoke, SetMask, Enter, Return, Switch, StoreField, StoreContext, StoreMask, StoreMode, AskViolation}
 use Rattle.run.specs.Records.{callOfKind, callsOf, stepBy, uncheckedStepOf}
-use Rattle.run.specs.Run.{stepsFrom, answersFrom, callAnswers, callReports, loadedOf, nameOf, reportsFrom, sent, sentReports}
+use Rattle.run.specs.Run.{answersOf, callReports, callSteps, loadedOf, nameOf, reportNamed, sent, sentReports, stepsFrom}
 use Rattle.run.specs.declared.records.Decoded.{Decoded}
 use Rattle.run.specs.declared.records.Decoded.the-variants.{Known, Unknown}
 
@@ -54,20 +54,20 @@ records-spelled kind right a a′ b b′ rest = refl
 pub run-spelled : (input : List ℕ) (room : ℕ) (m : Machine) (call : Call) (rest : List Decoded) (violation : Violation) (s : Domain)
     → let start = loadOf (take (wordAt input 0) (drop 2 input)) in
     let calls = drop (wordAt input 0) (drop 2 input) in
-    let answers : List ℕ = start .number ∷ pick (eqb (start .number) 0) (answersFrom (start .machine) (callsOf calls)) [] in
-    let reports : List Report = pick (eqb (start .number) 0) (reportsFrom (start .machine) (callsOf calls)) [] in
+    let steps : List Answered = pick (eqb (start .number) 0) (stepsFrom (start .machine) (callsOf calls)) [] in
+    let answers : List ℕ = start .number ∷ map (λ (a : Answered). a .number) steps in
+    let given : List ℕ = pick (ltb 32768 (length input)) [] (pick (leb (length answers) room) answers []) in
     (loadedOf input ≡ start)
-    × (sent input room ≡ pick (ltb 32768 (length input)) [] (pick (leb (length answers) room) answers []))
-    × (answersFrom m (Known call ∷ rest) ≡ callOf m call .number ∷ answersFrom (callOf m call .machine) rest)
-    × (answersFrom m (Unknown ∷ rest) ≡ 18 ∷ answersFrom m rest)
-    × (answersFrom m [] ≡ [])
-    × (callReports input ≡ reports)
-    × (sentReports input room ≡ pick (ltb 32768 (length input)) [] (pick (leb (length answers) room) reports []))
-    × (reportsFrom m (Known call ∷ rest) ≡ callOf m call .report ∷ reportsFrom (callOf m call .machine) rest)
-    × (reportsFrom m (Unknown ∷ rest) ≡ Nothing ∷ reportsFrom m rest)
-    × (reportsFrom m [] ≡ [])
+    × (answersOf input ≡ answers)
+    × (sent input room ≡ given)
+    × (stepsFrom m (Known call ∷ rest) ≡ callOf m call ∷ stepsFrom (callOf m call .machine) rest)
+    × (stepsFrom m (Unknown ∷ rest) ≡ record { number = 18; machine = m; report = Nothing } ∷ stepsFrom m rest)
+    × (stepsFrom m [] ≡ [])
+    × (callReports input ≡ map (λ (a : Answered). a .report) steps)
+    × (sentReports input room ≡ pick (eqb (length given) 0) [] (callReports input))
     × (nameOf Nothing ∷ nameOf (Denied violation) ∷ nameOf (Through s) ∷ [] ≡ 0 ∷ 0 ∷ (s .0 + 1) ∷ [])
+    × (reportNamed zero ∷ reportNamed (suc room) ∷ [] ≡ Nothing ∷ Through (record { 0 = room }) ∷ [])
     × (uncheckedStepOf m (Known call) ≡ uncheckedOf m call)
     × (uncheckedStepOf m Unknown ≡ record { number = 18; machine = m; report = Nothing })
-unfolding sent sentReports callAnswers callReports stepsFrom stepBy
-run-spelled input room m call rest violation s = (refl, refl, refl, refl, refl, refl, refl, refl, refl, refl, refl, refl, refl)
+unfolding sent sentReports callSteps stepsFrom stepBy
+run-spelled input room m call rest violation s = (refl, refl, refl, refl, refl, refl, refl, refl, refl, refl, refl, refl)

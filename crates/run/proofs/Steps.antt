@@ -8,7 +8,7 @@ use native.Mathlib.Numerals.{add-one}
 use native.Mathlib.Omega.{arith}
 use borrow.Author.Tests.{eqb-true, eqb-false}
 use lib.Dec.{eqb}
-use lib.ListN.{length, getD, set, drop, length-drop, length-map, List·getD-eq-default}
+use lib.ListN.{length, getD, set, drop, length-drop, List·getD-eq-default}
 use lib.Seq.{getD-drop, drop-drop, sets}
 use Rattle.image.specs.Bytes.{wordOf}
 use Rattle.machine.specs.Machine.{isSound, withLent}
@@ -20,7 +20,7 @@ use Rattle.machine.proofs.Answers.{sound-unchecked}
 use Rattle.machine.proofs.LentParts.{Lent}
 use Rattle.machine.proofs.Laws.{soundness-kept}
 use Rattle.run.specs.Records.{kinds, callOfKind, callsOf, stepBy, stepOf, uncheckedStepOf}
-use Rattle.run.specs.Run.{stepsFrom, answersFrom, reportsFrom}
+use Rattle.run.specs.Run.{stepsFrom}
 use Rattle.run.specs.declared.records.Decoded.{Decoded}
 use Rattle.run.specs.declared.records.Decoded.the-variants.{Known, Unknown}
 
@@ -75,7 +75,7 @@ no-record (k ∷ r ∷ a ∷ a′ ∷ []) h = refl
 no-record (k ∷ r ∷ a ∷ a′ ∷ b ∷ []) h = refl
 no-record (k ∷ r ∷ a ∷ a′ ∷ b ∷ b′ ∷ rest) h = absurd (omega arith)
 
--- one call for every six bytes, one step for every call, and one answer for every step
+-- one call for every six bytes, and one step for every call
 pub count-calls : (l : List ℕ) → length (callsOf l) ≡ length l / 6
 unfolding callsOf
 count-calls [] = refl
@@ -90,12 +90,6 @@ pub count-steps : (m : Machine) (calls : List Decoded) → length (stepsFrom m c
 unfolding stepsFrom
 count-steps m [] = refl
 count-steps m (call ∷ rest) = let more = count-steps (stepOf m call .machine) rest in omega arith
-
-pub count-answers : (m : Machine) (calls : List Decoded) → length (answersFrom m calls) ≡ length calls
-count-answers m calls = length-map (stepsFrom m calls) _ ∙ count-steps m calls
-
-pub count-reports : (m : Machine) (calls : List Decoded) → length (reportsFrom m calls) ≡ length calls
-count-reports m calls = length-map (stepsFrom m calls) _ ∙ count-steps m calls
 
 -- a step hands back a sound machine where it was handed one
 pub step-sound : (m : Machine) (call : Decoded) → isSound m ≡ true → isSound (stepOf m call .machine) ≡ true

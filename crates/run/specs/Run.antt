@@ -1,5 +1,5 @@
 -- The run over a whole input, and the bench (RULES, sections 6 and 7).
-use Prim.Native.Nat.{ℕ, _+_}
+use Prim.Native.Nat.{ℕ, zero, suc, _+_}
 use mathlib.Core.Bool.{Bool}
 use mathlib.Core.List.{List, [], _∷_, map}
 use lib.Dec.{eqb, leb, ltb}
@@ -7,6 +7,7 @@ use lib.ListN.{length, take, drop}
 use Rattle.rules.specs.Refusals.{pick}
 use Rattle.image.specs.Bytes.{wordAt}
 use Rattle.image.specs.Load.{loadOf}
+use Rattle.machine.specs.Calls.{asDomain}
 use Rattle.machine.specs.declared.record.Machine.{Machine}
 use Rattle.machine.specs.declared.record.Answered.{Answered}
 use Rattle.machine.specs.declared.record.Report.{Report}
@@ -31,23 +32,25 @@ unfoldable pub stepsFrom : Machine → List Decoded → List Answered
 stepsFrom m [] = []
 stepsFrom m (call ∷ rest) = stepOf m call ∷ stepsFrom (stepOf m call .machine) rest
 
--- RULES 6.7: the answers of records
-abbrev pub answersFrom : Machine → List Decoded → List ℕ
-answersFrom m calls = map (λ (a : Answered). a .number) (stepsFrom m calls)
+-- RULES 6.7: the answers of steps
+abbrev pub numbersOf : List Answered → List ℕ
+numbersOf steps = map (λ (a : Answered). a .number) steps
 
--- RULES 6.7: what records report
-abbrev pub reportsFrom : Machine → List Decoded → List Report
-reportsFrom m calls = map (λ (a : Answered). a .report) (stepsFrom m calls)
+-- RULES 6.7: what steps report
+abbrev pub reportsOf : List Answered → List Report
+reportsOf steps = map (λ (a : Answered). a .report) steps
 
--- RULES 6.8: after a refused load no record is read
-unfoldable pub callAnswers : List ℕ → List ℕ
-callAnswers input =
-    pick (eqb (loadedOf input .number) 0) (answersFrom (loadedOf input .machine) (callsOf (callBytes input))) []
+-- RULES 6.7, 6.8: the steps of an input's records, from the loaded machine on; after a refused load no record is read
+unfoldable pub callSteps : List ℕ → List Answered
+callSteps input = pick (eqb (loadedOf input .number) 0) (stepsFrom (loadedOf input .machine) (callsOf (callBytes input))) []
 
--- RULES 6.8: nor is there a report
-unfoldable pub callReports : List ℕ → List Report
-callReports input =
-    pick (eqb (loadedOf input .number) 0) (reportsFrom (loadedOf input .machine) (callsOf (callBytes input))) []
+-- RULES 6.7: the answers of the records
+abbrev pub callAnswers : List ℕ → List ℕ
+callAnswers input = numbersOf (callSteps input)
+
+-- RULES 6.7: what the records report, one report for each
+abbrev pub callReports : List ℕ → List Report
+callReports input = reportsOf (callSteps input)
 
 -- RULES 6.7, 7.2: the load's number, then each record's
 abbrev pub answersOf : List ℕ → List ℕ
@@ -61,12 +64,17 @@ isLong input = ltb 32768 (length input)
 unfoldable pub sent : List ℕ → ℕ → List ℕ
 sent input room = pick (isLong input) [] (pick (leb (length (answersOf input)) room) (answersOf input) [])
 
--- RULES 7.7: what the records report whose answers are sent
+-- RULES 7.7: what is reported with the answers: nothing where none is sent
 unfoldable pub sentReports : List ℕ → ℕ → List Report
-sentReports input room = pick (isLong input) [] (pick (leb (length (answersOf input)) room) (callReports input) [])
+sentReports input room = pick (eqb (length (sent input room)) 0) [] (callReports input)
 
 -- RULES 7.7: a report as a number in a lent buffer of names: one more than the domain that it names, and 0 where it names none
 abbrev pub nameOf : Report → ℕ
 nameOf Nothing = 0
 nameOf (Denied violation) = 0
 nameOf (Through s) = s .0 + 1
+
+-- RULES 7.7: what such a number stands for, which is all that a line shows of a report
+abbrev pub reportNamed : ℕ → Report
+reportNamed zero = Nothing
+reportNamed (suc s) = Through (asDomain s)

@@ -18,7 +18,7 @@ ghost use Rattle.rules.specs.Refusals.{pick};
 ghost use Rattle.machine.specs.Machine.{isSound};
 ghost use Rattle.image.specs.Bytes.{wordAt};
 ghost use Rattle.run.specs.Records.{callsOf};
-ghost use Rattle.run.specs.Run.{answersFrom, reportsFrom, loadedOf, sent, sentReports, nameOf};
+ghost use Rattle.run.specs.Run.{stepsFrom, numbersOf, reportsOf, loadedOf, sent, sentReports, nameOf};
 
 // Where the calls of an input start: past its image, or at its end.
 pub fn calls_start(input: &[u8]) -> usize
@@ -77,8 +77,8 @@ fn answer_calls(
     requires { ⌜ from ≤ length (now input) ⌝ }
     requires { ⌜ count ≡ 1 + (length (now input) - from) / 6 ⌝ }
     requires { ⌜ count ≤ length (now answers) ⌝ }
-    ensures { λ _. ⌜ now (answers .exit) ≡ sets (now (answers .entry)) 1 (answersFrom start (callsOf (drop from (now (input .entry))))) ⌝ }
-    ensures { λ _. ⌜ now (names .exit) ≡ sets (now (names .entry)) 1 (map nameOf (reportsFrom start (callsOf (drop from (now (input .entry)))))) ⌝ }
+    ensures { λ _. ⌜ now (answers .exit) ≡ sets (now (answers .entry)) 1 (numbersOf (stepsFrom start (callsOf (drop from (now (input .entry)))))) ⌝ }
+    ensures { λ _. ⌜ now (names .exit) ≡ sets (now (names .entry)) 1 (map nameOf (reportsOf (stepsFrom start (callsOf (drop from (now (input .entry))))))) ⌝ }
 {
     let mut fields = start.fields;
     let mut saved = start.saved;

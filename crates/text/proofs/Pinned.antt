@@ -1,6 +1,6 @@
 -- What the definitions of this crate come to, written out byte by byte: each word, each remainder, each power of ten, lines past the ninth, and
 -- the ends of the buffer. All is computed but the last two laws, which spell out the text of any input and what it is to store a text.
-use Prim.Native.Nat.{ℕ, zero, suc, _+_, _/_, _%_}
+use Prim.Native.Nat.{ℕ, _+_, _/_, _%_}
 use lib.Dec.{leb, ltb, eqb}
 use mathlib.Core.Path.{_≡_, refl}
 use mathlib.Core.List.{List, [], _∷_, _++_, map}
@@ -16,8 +16,8 @@ use Rattle.machine.specs.declared.record.Report.{Report}
 use Rattle.machine.specs.declared.record.Report.the-variants.{Nothing, Denied, Through}
 use Rattle.run.specs.Records.{callsOf, callOfKind, stepBy}
 use Rattle.rules.specs.Refusals.{pick}
-use Rattle.run.specs.Run.{stepsFrom, callAnswers, callReports, callBytes, loadedOf}
-use Rattle.text.specs.Text.{letters, decimalOf, reportNamed, lineOf, linesFrom, cutOf, loadLine, runText, textOf, printed}
+use Rattle.run.specs.Run.{stepsFrom, callSteps, callAnswers, callReports, callBytes, loadedOf}
+use Rattle.text.specs.Text.{letters, decimalOf, lineOf, linesFrom, cutOf, loadLine, runText, textOf, printed}
 use Rattle.text.specs.Put.{Put}
 
 -- words as their bytes
@@ -50,8 +50,7 @@ pub decimals :
 unfolding decimalOf
 decimals = refl
 
--- lines of one and of two digits in each field, in order, with a domain and with none; what a number of a buffer of names stands for; the load's line for
--- each of its answers
+-- lines of one and of two digits in each field, in order, with a domain and with none; the load's line for each of its answers
 pub lines-written :
     let goes : ℕ → Report = λ s. Through (record { 0 = s }) in
     let denied = Denied (record { program = 7; right = 1; address = 5 }) in
@@ -59,11 +58,10 @@ pub lines-written :
     × (linesFrom 9 (9 ∷ 12 ∷ 0 ∷ 0 ∷ []) (Nothing ∷ Nothing ∷ goes 0 ∷ denied ∷ []) ≡ letters "9 9 -\n10 12 -\n11 0 0\n12 0 -\n")
     × (linesFrom 99 (0 ∷ 0 ∷ 0 ∷ []) (goes 9 ∷ goes 10 ∷ goes 15 ∷ []) ≡ letters "99 0 9\n100 0 10\n101 0 15\n")
     × (linesFrom 5461 (17 ∷ []) [] ≡ letters "5461 17 -\n")
-    × (map reportNamed (0 ∷ 1 ∷ 2 ∷ 16 ∷ 65536 ∷ []) ≡ Nothing ∷ goes 0 ∷ goes 1 ∷ goes 15 ∷ goes 65535 ∷ [])
     × (map loadLine (0 ∷ 20 ∷ 21 ∷ 22 ∷ 23 ∷ 24 ∷ 25 ∷ [])
     ≡ map letters ("load 0\n" ∷ "load 20\n" ∷ "load 21\n" ∷ "load 22\n" ∷ "load 23\n" ∷ "load 24\n" ∷ "load 25\n" ∷ []))
 unfolding linesFrom lineOf decimalOf loadLine
-lines-written = (refl, refl, refl, refl, refl, refl)
+lines-written = (refl, refl, refl, refl, refl)
 
 -- each remainder of a division by six
 pub remainders :
@@ -96,7 +94,7 @@ pub texts :
     ∷ []))
     × (map textOf ([] ∷ (7 ∷ []) ∷ (0x00 ∷ 0x2C ∷ (set sampleBytes 38 2 ++ 0x05 ∷ [])) ∷ replicate 32768 0 ∷ replicate 32769 0 ∷ [])
     ≡ map letters ("load 20\n" ∷ "load 20\n" ∷ "load 25\n" ∷ "load 20\n" ∷ "long\n" ∷ []))
-unfolding textOf runText loadLine decimalOf linesFrom lineOf cutOf sampleBytes callAnswers callReports stepsFrom callsOf callOfKind stepBy loadOf loadChecks lengthTests kindTests shapeEntryTests shapeTests bodyTests describe machineOf callOf checksOf accessChecks effectOf entered returned after isSound
+unfolding textOf runText loadLine decimalOf linesFrom lineOf cutOf sampleBytes callSteps stepsFrom callsOf callOfKind stepBy loadOf loadChecks lengthTests kindTests shapeEntryTests shapeTests bodyTests describe machineOf callOf checksOf accessChecks effectOf entered returned after isSound
 texts = (refl, refl)
 
 -- the text in a buffer of 100,000 bytes and more, and nothing in a shorter one
@@ -118,13 +116,12 @@ pub text-spelled : (input answers : List ℕ) (reports : List Report) (violation
     × (linesFrom i (n ∷ answers) (Denied violation ∷ reports) ≡ line (45 ∷ []) ++ linesFrom (i + 1) answers reports)
     × (linesFrom i (n ∷ answers) [] ≡ line (45 ∷ []) ++ linesFrom (i + 1) answers [])
     × (linesFrom i [] reports ≡ [])
-    × (reportNamed zero ∷ reportNamed (suc n) ∷ [] ≡ Nothing ∷ Through (record { 0 = n }) ∷ [])
     × (textOf input
     ≡ pick long (108 ∷ 111 ∷ 110 ∷ 103 ∷ 10 ∷ [])
     (((108 ∷ 111 ∷ 97 ∷ 100 ∷ 32 ∷ []) ++ decimalOf loads ++ (10 ∷ [])) ++ pick (eqb loads 0) (linesFrom 1 (callAnswers input) (callReports input) ++ cut) []))
     × (printed input room ≡ pick (leb 100000 room) (textOf input) [])
 unfolding decimalOf lineOf linesFrom cutOf loadLine runText textOf printed
-text-spelled input answers reports violation s n i room = (refl, refl, refl, refl, refl, refl, refl, refl, refl)
+text-spelled input answers reports violation s n i room = (refl, refl, refl, refl, refl, refl, refl, refl)
 
 -- storing two bytes from place 1 on: the four bytes of the buffer after it, and the place past them
 pub put-means : (exit : List ℕ) (past : ℕ) → Put (1 ∷ 2 ∷ 3 ∷ 4 ∷ []) 1 (8 ∷ 9 ∷ []) exit past → (exit ≡ 1 ∷ 8 ∷ 9 ∷ 4 ∷ []) × (past ≡ 3)

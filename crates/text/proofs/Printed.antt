@@ -5,7 +5,7 @@ use mathlib.Core.Bool.{Bool, true, false}
 use mathlib.Core.List.{List, [], _∷_, _++_, map}
 use native.Mathlib.Numerals.{add-one}
 use native.Mathlib.Omega.{arith}
-use borrow.Author.Tests.{le-ltb, le-leb, ltb-false}
+use borrow.Author.Tests.{ltb-false}
 use lib.Dec.{eqb, leb}
 use lib.ListN.{length, getD, take, drop, length-append, length-map}
 use lib.Seq.{sets, sets-eq, take-append-seam}
@@ -14,9 +14,10 @@ use Rattle.image.specs.Bytes.{wordAt}
 use Rattle.run.specs.Records.{callsOf}
 use Rattle.machine.specs.declared.record.Report.{Report}
 use Rattle.machine.specs.declared.record.Report.the-variants.{Nothing, Denied, Through}
-use Rattle.run.specs.Run.{answersFrom, answersOf, callAnswers, callBytes, callReports, isLong, loadedOf, nameOf, sent, sentReports}
-use Rattle.run.proofs.Sent.{answers-most, bytes-left, reports-count}
-use Rattle.text.specs.Text.{letters, cutOf, reportNamed, lineOf, linesFrom, loadLine, printed, runText, textOf}
+use Rattle.machine.specs.declared.record.Answered.{Answered}
+use Rattle.run.specs.Run.{answersOf, callAnswers, callBytes, callReports, callSteps, isLong, loadedOf, nameOf, numbersOf, reportNamed, reportsOf, sent, sentReports, stepsFrom}
+use Rattle.run.proofs.Sent.{all-reported, all-sent, answers-most, bytes-left, reports-count}
+use Rattle.text.specs.Text.{letters, cutOf, lineOf, linesFrom, loadLine, printed, runText, textOf}
 use Rattle.text.specs.Put.{Put}
 use Rattle.text.proofs.Puts.{decimal-most, line-most}
 
@@ -35,17 +36,12 @@ lines-most i (answer ∷ rest) (report ∷ reports) =
 pub answers-fit : (input : List ℕ) → length input ≤ 32768 → length (answersOf input) ≤ 5462
 answers-fit input within = omega (arith, answers-most input, within)
 
--- so all of them are sent to a buffer of that size
-pub all-sent : (input : List ℕ) → length input ≤ 32768 → sent input 5462 ≡ answersOf input
-unfolding sent
-all-sent input within = rw (le-ltb 32768 (length input) within, le-leb (length (answersOf input)) 5462 (answers-fit input within))
-
--- what the bench says of such a buffer: its front is the answers, the load's first
+-- so what a run gives to a buffer of that size has all of them at its front, the load's first
 pub front : (input entry : List ℕ) {exit : List ℕ} {count : ℕ} → length input ≤ 32768 → length entry ≡ 5462
     → count ≡ length (sent input (length entry)) → exit ≡ sent input (length entry) ++ drop (length (sent input (length entry))) entry
     → (count ≡ length (answersOf input)) × (take count exit ≡ answersOf input) × (getD exit 0 0 ≡ loadedOf input .number)
 front input entry {exit} {count} within long counted stored =
-    let all : sent input (length entry) ≡ answersOf input = rw long (all-sent input within) in
+    let all : sent input (length entry) ≡ answersOf input = rw long (all-sent input 5462 within (answers-fit input within)) in
     let size : count ≡ length (answersOf input) = counted ∙ ap length all in
     let held : exit ≡ answersOf input ++ drop (length (answersOf input)) entry = rw all at stored in
     (size, rw (held, size) (take-append-seam (answersOf input) _), rw held)
@@ -54,10 +50,8 @@ front input entry {exit} {count} within long counted stored =
 pub front-names : (input names : List ℕ) {names′ : List ℕ} {count : ℕ} → length input ≤ 32768 → length names ≡ 5462
     → count ≡ length (answersOf input) → names′ ≡ sets names 1 (map nameOf (sentReports input 5462))
     → (drop 1 (take count names′) ≡ map nameOf (callReports input)) × (length (take count names′) ≡ count)
-unfolding sentReports
 front-names input names {names′} {count} within long counted stored =
-    let all : sentReports input 5462 ≡ callReports input =
-    rw (le-ltb 32768 (length input) within, le-leb (length (answersOf input)) 5462 (answers-fit input within)) in
+    let all = all-reported input 5462 (all-sent input 5462 within (answers-fit input within)) in
     let many : length (map nameOf (callReports input)) ≡ length (callAnswers input) = length-map (callReports input) nameOf ∙ reports-count input in
     rw (stored, all) (taken names (map nameOf (callReports input)) (omega (arith, counted, many)) (omega (arith, counted, long, answers-fit input within)))
   where
@@ -82,16 +76,17 @@ pub run-text : (input : List ℕ) {end : ℕ} → end ≡ min (2 + wordAt input 
     ++ (linesFrom 1 (drop 1 (answersOf input)) (map reportNamed (map nameOf (callReports input)))
     ++ pick (eqb (pick (eqb (loadedOf input .number) 0) (length input - end) 0 % 6) 0) [] (letters "cut\n"))
     ≡ runText input
-unfolding runText callAnswers cutOf linesFrom
+unfolding runText callSteps cutOf linesFrom
 run-text input {end} ends = rw (lines-named 1 (callAnswers input) (callReports input)) (split (eqb (loadedOf input .number) 0))
   where
+    steps : Bool → List Answered
+    steps b = pick b (stepsFrom (loadedOf input .machine) (callsOf (callBytes input))) []
+
     split : (b : Bool)
         → loadLine (loadedOf input .number)
-        ++ (linesFrom 1 (pick b (answersFrom (loadedOf input .machine) (callsOf (callBytes input))) []) (callReports input)
-        ++ pick (eqb (pick b (length input - end) 0 % 6) 0) [] (letters "cut\n"))
+        ++ (linesFrom 1 (numbersOf (steps b)) (reportsOf (steps b)) ++ pick (eqb (pick b (length input - end) 0 % 6) 0) [] (letters "cut\n"))
         ≡ loadLine (loadedOf input .number)
-        ++ pick b (linesFrom 1 (pick b (answersFrom (loadedOf input .machine) (callsOf (callBytes input))) []) (callReports input)
-        ++ pick (eqb (length (callBytes input) % 6) 0) [] (letters "cut\n")) []
+        ++ pick b (linesFrom 1 (numbersOf (steps b)) (reportsOf (steps b)) ++ pick (eqb (length (callBytes input) % 6) 0) [] (letters "cut\n")) []
     split true = rw (bytes-left input ends)
     split false = refl
 

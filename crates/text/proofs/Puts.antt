@@ -12,9 +12,10 @@ use lib.Seq.{sets, length-sets, drop-cons}
 use Rattle.rules.specs.Refusals.{pick}
 use Rattle.machine.specs.declared.record.Report.{Report}
 use Rattle.machine.specs.declared.record.Report.the-variants.{Nothing, Denied, Through}
+use Rattle.run.specs.Run.{reportNamed}
 use Rattle.image.proofs.Stored.{sets-append}
 use Rattle.text.specs.Put.{Put}
-use Rattle.text.specs.Text.{leadingDigit, decimalOf, nameText, reportNamed, lineOf, linesFrom}
+use Rattle.text.specs.Text.{leadingDigit, decimalOf, nameText, lineOf, linesFrom}
 
 pub put-none : (l : List ℕ) (at : ℕ) → Put l at [] l at
 put-none l at = record { stored = refl; next = sym (add-zero at) }

@@ -1,12 +1,11 @@
 -- What `pagerun` prints (RULES, section 8).
-use Prim.Native.Nat.{ℕ, zero, suc, _+_, _/_, _%_}
+use Prim.Native.Nat.{ℕ, _+_, _/_, _%_}
 use Prim.Native.Char.{code}
 use Prim.Native.String.{String, [] as noLetters, _∷_ as _then_}
 use mathlib.Core.List.{List, [], _∷_, _++_}
 use lib.Dec.{eqb, leb}
 use lib.ListN.{length}
 use Rattle.rules.specs.Refusals.{pick}
-use Rattle.machine.specs.Calls.{asDomain}
 use Rattle.machine.specs.declared.record.Report.{Report}
 use Rattle.machine.specs.declared.record.Report.the-variants.{Nothing, Denied, Through}
 use Rattle.run.specs.Run.{callBytes, callAnswers, callReports, isLong, loadedOf}
@@ -25,9 +24,9 @@ unfoldable pub decimalOf : ℕ → List ℕ
 decimalOf n =
     leadingDigit n 10000 ++ leadingDigit n 1000 ++ leadingDigit n 100 ++ leadingDigit n 10 ++ ((48 + n % 10) ∷ [])
 
--- RULES 8.3: a field of a line past the first, with the space before it
-abbrev pub field : List ℕ → List ℕ
-field text = letters " " ++ text
+-- RULES 8.3: what stands in a line past its first field, with the space before it
+abbrev pub column : List ℕ → List ℕ
+column text = letters " " ++ text
 
 -- RULES 8.3: what a report names: a domain, or `-` for none
 abbrev pub nameText : Report → List ℕ
@@ -37,18 +36,13 @@ nameText (Through s) = decimalOf (s .0)
 
 -- RULES 8.3: the line of a record: which one it is, its number and what it names
 unfoldable pub lineOf : ℕ → ℕ → Report → List ℕ
-lineOf i answer report = decimalOf i ++ field (decimalOf answer) ++ field (nameText report) ++ letters "\n"
+lineOf i answer report = decimalOf i ++ column (decimalOf answer) ++ column (nameText report) ++ letters "\n"
 
 -- RULES 8.3: the lines of all records, counted from i on, from their numbers and what they report; one without a report names none
 unfoldable pub linesFrom : ℕ → List ℕ → List Report → List ℕ
 linesFrom i [] reports = []
 linesFrom i (answer ∷ rest) [] = lineOf i answer Nothing ++ linesFrom (i + 1) rest []
 linesFrom i (answer ∷ rest) (report ∷ reports) = lineOf i answer report ++ linesFrom (i + 1) rest reports
-
--- RULES 7.7: what a number of a buffer of names stands for
-abbrev pub reportNamed : ℕ → Report
-reportNamed zero = Nothing
-reportNamed (suc s) = Through (asDomain s)
 
 -- RULES 8.4: the line for a remainder of call bytes
 unfoldable pub cutOf : List ℕ → List ℕ

@@ -8,7 +8,8 @@ ghost use Prim.Native.Nat.{_+_, _*_, _-_, _%_, _≤_, _<_};
 ghost use lib.ListN.{length, drop};
 ghost use lib.Dec.{eqb};
 ghost use Rattle.rules.specs.Refusals.{pick};
-ghost use Rattle.text.specs.Text.{letters, leadingDigit, decimalOf, field, nameText, reportNamed, lineOf, linesFrom, loadLine, runText, printed};
+ghost use Rattle.run.specs.Run.{reportNamed};
+ghost use Rattle.text.specs.Text.{letters, leadingDigit, decimalOf, column, nameText, lineOf, linesFrom, loadLine, runText, printed};
 ghost use Rattle.text.specs.Put.{Put};
 
 // One byte.
@@ -58,9 +59,9 @@ fn put_decimal(out: &mut [u8], at: usize, n: u32) -> usize
 }
 
 // A space and a number in decimal.
-fn put_field(out: &mut [u8], at: usize, n: u32) -> usize
+fn put_column(out: &mut [u8], at: usize, n: u32) -> usize
     requires { ⌜ at + 6 ≤ length (now out) ⌝ }
-    ensures { λ r. ⌜ Put (now (out .entry)) at (field (decimalOf n)) (now (out .exit)) r ⌝ }
+    ensures { λ r. ⌜ Put (now (out .entry)) at (column (decimalOf n)) (now (out .exit)) r ⌝ }
 {
     let a = put_byte(out, at, b' ');
     put_decimal(out, a, n)
@@ -69,12 +70,12 @@ fn put_field(out: &mut [u8], at: usize, n: u32) -> usize
 // A space and the domain that a name stands for, or that there is none.
 fn put_name(out: &mut [u8], at: usize, name: u32) -> usize
     requires { ⌜ at + 6 ≤ length (now out) ⌝ }
-    ensures { λ r. ⌜ Put (now (out .entry)) at (field (nameText (reportNamed name))) (now (out .exit)) r ⌝ }
+    ensures { λ r. ⌜ Put (now (out .entry)) at (column (nameText (reportNamed name))) (now (out .exit)) r ⌝ }
 {
     if name == 0 {
         return put_bytes(out, at, b" -");
     }
-    put_field(out, at, name - 1)
+    put_column(out, at, name - 1)
 }
 
 // The line of a call: its number, its answer and what that names.
@@ -83,7 +84,7 @@ fn put_line(out: &mut [u8], at: usize, i: u32, answer: u8, name: u32) -> usize
     ensures { λ r. ⌜ Put (now (out .entry)) at (lineOf i answer (reportNamed name)) (now (out .exit)) r ⌝ }
 {
     let a = put_decimal(out, at, i);
-    let b = put_field(out, a, answer as u32);
+    let b = put_column(out, a, answer as u32);
     let c = put_name(out, b, name);
     put_byte(out, c, b'\n')
 }

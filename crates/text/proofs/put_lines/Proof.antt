@@ -7,7 +7,8 @@ use native.Mathlib.Omega.{arith}
 use lib.ListN.{length, getD, drop, drop-of-length-le}
 use lib.Seq.{sets}
 use borrow.Author.Needs.{needs}
-use Rattle.text.specs.Text.{linesFrom, reportNamed}
+use Rattle.run.specs.Run.{reportNamed}
+use Rattle.text.specs.Text.{linesFrom}
 use Rattle.text.proofs.Puts.{line-most, put-long, turn-line}
 use Rattle.text.proofs.put_lines.Statement.{statement}
 use Rattle.text.proofs.put_lines.Tie as tie

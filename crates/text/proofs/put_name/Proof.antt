@@ -14,8 +14,8 @@ returns-2 : tie.Need-returns-2
 returns-2 c =
     let some : tie.Else1 = (search) in
     let start : tie.Start = (search) in
-    let putting : tie.After-put-field = (search) in
-    rw (named-above (start .args .name) (some .if1 .left)) (putting .put-field .ensures)
+    let putting : tie.After-put-column = (search) in
+    rw (named-above (start .args .name) (some .if1 .left)) (putting .put-column .ensures)
 
 pub put-name-spec : {M : Type 1} → statement M
 put-name-spec =

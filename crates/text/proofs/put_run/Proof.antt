@@ -4,15 +4,14 @@ use mathlib.Core.Path.{_≡_, ap, sym, _∙_}
 use mathlib.Core.List.{map}
 use native.Mathlib.Omega.{arith}
 use lib.ListN.{length, getD, take, drop, replicate, length-drop, length-replicate}
-use Rattle.run.specs.Run.{answersOf, callReports, loadedOf, nameOf}
-use Rattle.text.specs.Text.{reportNamed}
+use Rattle.run.specs.Run.{answersOf, callReports, loadedOf, nameOf, reportNamed}
 use Rattle.text.proofs.Puts.{put-put, put-long}
 use Rattle.text.proofs.Printed.{load-most, lines-most, answers-fit, front, front-names, run-text}
 use borrow.Author.Needs.{needs}
 use Rattle.text.proofs.put_run.Statement.{statement}
 use Rattle.text.proofs.put_run.Tie as tie
 
--- what the bench sent
+-- what the run answered
 answered : (c : tie.After-run-named)
     → let start : tie.Start = (search) in
     let input = start .args .input .now in

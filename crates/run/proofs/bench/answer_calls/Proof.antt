@@ -12,7 +12,7 @@ use lib.Seq.{sets}
 use Rattle.machine.specs.Machine.{isSound, withLent}
 use Rattle.machine.specs.declared.record.Answered.{Answered}
 use Rattle.run.specs.Records.{callsOf}
-use Rattle.run.specs.Run.{stepsFrom, answersFrom, reportsFrom, nameOf}
+use Rattle.run.specs.Run.{stepsFrom, numbersOf, reportsOf, nameOf}
 use Rattle.run.proofs.Steps.{next-step, no-record, whole, turn, sound-step, step-sound}
 use Rattle.run.proofs.bench.answer_calls.Statement.{statement}
 use Rattle.run.proofs.bench.answer_calls.Tie as tie
@@ -23,14 +23,14 @@ Inv-loop input from count answers₀ names₀ fields₀ saved₀ answered₀ at�
     × (i + (length input - at) / 6 ≡ count)
     × (length answers ≡ length answers₀)
     × (count ≤ length answers)
-    × (sets answers i (answersFrom (withLent fields saved (answered .machine)) (callsOf (drop at input)))
-    ≡ sets answers₀ 1 (answersFrom (withLent fields₀ saved₀ (answered₀ .machine)) (callsOf (drop from input))))
+    × (sets answers i (numbersOf (stepsFrom (withLent fields saved (answered .machine)) (callsOf (drop at input))))
+    ≡ sets answers₀ 1 (numbersOf (stepsFrom (withLent fields₀ saved₀ (answered₀ .machine)) (callsOf (drop from input)))))
     × (length fields ≡ 256)
     × (length saved ≡ 8)
     × (isSound (withLent fields saved (answered .machine)) ≡ true)
     × (length names ≡ length names₀)
-    × (sets names i (map nameOf (reportsFrom (withLent fields saved (answered .machine)) (callsOf (drop at input))))
-    ≡ sets names₀ 1 (map nameOf (reportsFrom (withLent fields₀ saved₀ (answered₀ .machine)) (callsOf (drop from input)))))
+    × (sets names i (map nameOf (reportsOf (stepsFrom (withLent fields saved (answered .machine)) (callsOf (drop at input)))))
+    ≡ sets names₀ 1 (map nameOf (reportsOf (stepsFrom (withLent fields₀ saved₀ (answered₀ .machine)) (callsOf (drop from input))))))
 
 abbrev μ-loop : tie.MeasureT-loop
 μ-loop input from count answers₀ names₀ fields₀ saved₀ answered₀ at₀ i₀ answers names fields saved answered at i = count - i
@@ -51,7 +51,7 @@ slice-aggregate-step-2 c =
 step-requires : tie.Need-step-requires Inv-loop μ-loop
 step-requires c κs = tt
 
--- inside the loop there is a whole record left, and all of it is in the input
+-- inside the loop a whole record is left, and the length of the input is an index, so that the sums have room
 record-left : (c : tie.In-loop Inv-loop μ-loop)
     → let start : tie.Start Inv-loop μ-loop = (search) in
     let looping : tie.At-loop Inv-loop μ-loop = (search) in
@@ -75,12 +75,12 @@ loop-again c =
       omega arith,
       length-set (l .answers) (l .i) (stepping .step .result .number) ∙ l .inv .2,
       simp length-set (omega arith),
-      turn (l .answers) (l .i) _ (ap (λ (steps : List Answered). map (λ (a : Answered). a .number) steps) next) ∙ l .inv .4,
+      turn (l .answers) (l .i) _ (ap numbersOf next) ∙ l .inv .4,
       search needs,
       search needs,
       ap (λ (r : Answered). isSound (r .machine)) stepped ∙ step-sound m _ (l .inv .7),
       rw named (length-set (l .names) (l .i) _) ∙ l .inv .8,
-      rw named (turn (l .names) (l .i) _ (ap (λ (steps : List Answered). map nameOf (map (λ (a : Answered). a .report) steps)) next)) ∙ l .inv .9,
+      rw named (turn (l .names) (l .i) _ (ap (λ (steps : List Answered). map nameOf (reportsOf steps)) next)) ∙ l .inv .9,
     )
 
 same-length : tie.Need-same-length Inv-loop μ-loop

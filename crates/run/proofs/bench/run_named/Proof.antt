@@ -1,13 +1,14 @@
 -- `run::bench::run_named` meets its contract: in each of its four ends the count and the two buffers are what is sent. The loop starts on a machine
 -- that a load accepted, which is sound.
-use mathlib.Core.Path.{_≡_, sym, _∙_}
+use mathlib.Core.Path.{_≡_, refl, sym, _∙_}
+use mathlib.Core.List.{[]}
 use native.Mathlib.Omega.{arith}
 use borrow.Author.Needs.{needs}
 use borrow.Author.Tests.{eq-eqb}
 use lib.ListN.{length, length-set}
 use Rattle.image.proofs.Loaded.{loaded}
 use Rattle.run.specs.Run.{answersOf, imageOf}
-use Rattle.run.proofs.Sent.{answers-count, all-sends, long-sends, named-all, named-none, short-sends, stored-all, stored-one}
+use Rattle.run.proofs.Sent.{answers-count, all-sends, long-sends, short-sends, steps-all, steps-none}
 use Rattle.run.proofs.bench.run_named.Statement.{statement}
 use Rattle.run.proofs.bench.run_named.Tie as tie
 
@@ -31,7 +32,7 @@ returns-2 c =
     let start : tie.Start = (search) in
     let short : tie.Else1 = (search) in
     let starting : tie.After-calls-start = (search) in
-    short-sends (start .args .input .now) (start .args .answers .now) (start .args .names .now) (starting .calls-start .ensures) (short .if1 .left) (counted (c .before)) (c .if2 .taken)
+    short-sends (start .args .input .now) (start .args .answers .now) (start .args .names .now) (short .if1 .left) (counted (c .before)) (c .if2 .taken)
 
 slice-write-answers : tie.Need-slice-write-answers
 slice-write-answers c = omega (arith, counted (c .before))
@@ -64,24 +65,20 @@ returns-3 c =
     let a = start .args in
     let load = loading .load-input .ensures in
     let accepted = rw load at (answering .before .before .before .if3 .taken) in
-    all-sends (a .input .now) (a .answers .now) (a .names .now) (starting .calls-start .ensures) (short .if1 .left) (counted (room .before)) (room .if2 .left)
-    (answering .answer-calls .ensures .0
-    ∙ rw load (stored-all (a .input .now) (a .answers .now) (a .names .now) (starting .calls-start .ensures) accepted))
-    (answering .answer-calls .ensures .1
-    ∙ rw load (named-all (a .input .now) (a .answers .now) (a .names .now) (starting .calls-start .ensures) accepted))
+    let stored = rw load at (answering .answer-calls .ensures) in
+    all-sends (a .input .now) (a .answers .now) (a .names .now) (short .if1 .left) (counted (room .before)) _ (room .if2 .left)
+    (steps-all (a .input .now) (starting .calls-start .ensures) accepted) (stored .0) (stored .1)
 
 returns-4 : tie.Need-returns-4
 returns-4 c =
     let start : tie.Start = (search) in
     let short : tie.Else1 = (search) in
-    let starting : tie.After-calls-start = (search) in
     let loading : tie.After-load-input = (search) in
     let room : tie.Else2 = (search) in
     let a = start .args in
     let load = loading .load-input .ensures in
-    all-sends (a .input .now) (a .answers .now) (a .names .now) (starting .calls-start .ensures) (short .if1 .left) (counted (room .before)) (room .if2 .left)
-    (rw load (stored-one (a .input .now) (a .answers .now) (a .names .now) (starting .calls-start .ensures) (rw (← load) (c .if3 .left))))
-    (named-none (a .input .now) (a .answers .now) (a .names .now) (starting .calls-start .ensures) (rw (← load) (c .if3 .left)))
+    all-sends (a .input .now) (a .answers .now) (a .names .now) (short .if1 .left) (counted (room .before)) [] (room .if2 .left)
+    (steps-none (a .input .now) (rw (← load) (c .if3 .left))) (rw load) refl
 
 pub run-named-spec : {M : Type 1} → statement M
 run-named-spec =
