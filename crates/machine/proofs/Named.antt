@@ -1,19 +1,20 @@
 -- Through which domain an access goes (RULES 1.17, 2.13, 3.3): where a domain is named and where none, which one it is, and that it is the first byte's. By the
 -- conditions of an accepted access, which are not met, and the law of the giving domain.
 use Prim.Native.Nat.{ℕ, _^_, _/_, _<_}
-use mathlib.Core.Path.{_≡_, refl, ap, sym}
-use mathlib.Core.Bool.{Bool, true, false, not, _&&_, true≢false}
+use mathlib.Core.Path.{_≡_, refl, ap, sym, _∙_}
+use mathlib.Core.Bool.{Bool, true, false, not, _&&_}
 use mathlib.Core.Logic.{inl, inr, ⊎-elim}
-use borrow.Author.Tests.{eqb-true}
+use borrow.Author.Tests.{eqb-true, not-true}
 use native.Mathlib.Omega.{arith}
 use lib.Bits.{and-le-l}
 use lib.Dec.{eqb}
 use Rattle.rules.specs.Registers.{localContext}
 use Rattle.rules.specs.Domains.{holds, givingDomain}
 use Rattle.rules.specs.Refusals.{pick}
+use Rattle.rules.proofs.Decided.{and-both}
 use Rattle.rules.proofs.Lowest.{giving-lowest}
 use Rattle.machine.specs.Machine.{fieldOf}
-use Rattle.machine.specs.Calls.{asDomain, callOf, inPrivilegedMode, inUserMode, handedOut, numberOf, reportOf}
+use Rattle.machine.specs.Calls.{callOf, inPrivilegedMode, inUserMode, handedOut, numberOf, reportOf}
 use Rattle.machine.specs.declared.record.Machine.{Machine}
 use Rattle.machine.specs.declared.record.Domain.{Domain}
 use Rattle.machine.specs.declared.record.LastViolation.{LastViolation}
@@ -29,10 +30,10 @@ use Rattle.machine.proofs.Allowed.{Allowed, allowed, allows, user-allow
 use Rattle.machine.proofs.Touched.{Touches, first-touched}
 
 -- a report names a domain
-abbrev pub names : Report → Bool
-names Nothing = false
-names (Denied violation) = false
-names (Through s) = true
+abbrev pub namesDomain : Report → Bool
+namesDomain Nothing = false
+namesDomain (Denied violation) = false
+namesDomain (Through s) = true
 
 -- a call is an access, of either width
 abbrev pub isAccess : Call → Bool
@@ -50,25 +51,25 @@ isAccess (StoreMode mode) = false
 isAccess AskViolation = false
 
 -- RULES 2.13: a domain is named exactly where an access is allowed in user mode
-pub named-exactly : (m : Machine) (call : Call) → names (callOf m call .report) ≡ isAccess call && (eqb (callOf m call .number) 0 && inUserMode m)
+pub named-exactly : (m : Machine) (call : Call) → namesDomain (callOf m call .report) ≡ isAccess call && (eqb (callOf m call .number) 0 && inUserMode m)
 unfolding callOf
 named-exactly m call = each call (eqb (numberOf m call) 0)
   where
-    none : (done : Bool) → names (pick done Nothing Nothing) ≡ false
+    none : (done : Bool) → namesDomain (pick done Nothing Nothing) ≡ false
     none true = refl
     none false = refl
 
-    question : (done : Bool) (last : LastViolation) → names (pick done (handedOut last) Nothing) ≡ false
+    question : (done : Bool) (last : LastViolation) → namesDomain (pick done (handedOut last) Nothing) ≡ false
     question true Absent = refl
     question true (Was violation) = refl
     question false last = refl
 
-    mode : (done privileged : Bool) (s : Domain) → names (pick done (pick privileged Nothing (Through s)) Nothing) ≡ done && not privileged
+    mode : (done privileged : Bool) (s : Domain) → namesDomain (pick done (pick privileged Nothing (Through s)) Nothing) ≡ done && not privileged
     mode true true s = refl
     mode true false s = refl
     mode false privileged s = refl
 
-    each : (call : Call) (done : Bool) → names (pick done (reportOf m call) Nothing) ≡ isAccess call && (done && inUserMode m)
+    each : (call : Call) (done : Bool) → namesDomain (pick done (reportOf m call) Nothing) ≡ isAccess call && (done && inUserMode m)
     each (Access width right address) done = mode done (inPrivilegedMode m) _
     each (Grant right page s) done = none done
     each (Revoke right page s) done = none done
@@ -94,19 +95,17 @@ module _ (m : Machine) (width : Width) (right address : ℕ) where
   through : {s : Domain} → callOf m (Access width right address) .report ≡ Through s
       → (numberOf m (Access width right address) ≡ 0) × (inPrivilegedMode m ≡ false) × (givingDomain field local ≡ s .0)
   unfolding callOf
-  through {s} = split (eqb (numberOf m (Access width right address)) 0) refl (inPrivilegedMode m) refl
+  through {s} h =
+      let call = Access width right address in
+      let tests = and-both (eqb (numberOf m call) 0) (inUserMode m) (sym (named-exactly m call) ∙ ap namesDomain h) in
+      let user = not-true (inPrivilegedMode m) (tests .1) in
+      let done = eqb-true (numberOf m call) 0 (tests .0) in
+      (done, user, ap numbered (rw (done, user) at h))
     where
       numbered : Report → ℕ
       numbered Nothing = 0
       numbered (Denied violation) = 0
       numbered (Through t) = t .0
-
-      split : (done : Bool) → eqb (numberOf m (Access width right address)) 0 ≡ done → (privileged : Bool) → inPrivilegedMode m ≡ privileged
-          → pick done (pick privileged Nothing (Through (asDomain (givingDomain field local)))) Nothing ≡ Through s
-          → (numberOf m (Access width right address) ≡ 0) × (inPrivilegedMode m ≡ false) × (givingDomain field local ≡ s .0)
-      split true e true f h = absurd (true≢false (sym (ap names h)))
-      split true e false f h = (eqb-true (numberOf m (Access width right address)) 0 e, f, ap numbered h)
-      split false e privileged f h = absurd (true≢false (sym (ap names h)))
 
   -- RULES 1.17, 3.3: the named domain is in the local context and in the field of the first byte's page, and no domain of higher level is in both
   pub named-lowest : (s : Domain) → m .registers .context < 65536 → callOf m (Access width right address) .report ≡ Through s

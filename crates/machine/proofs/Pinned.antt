@@ -127,7 +127,7 @@ pub last-page-order :
 unfolding callOf checksOf accessChecks changeChecks isSound prevailing domainBit trailingZeros
 last-page-order = (refl, refl, refl, refl)
 
--- a machine, a call that is made on it that reports nothing, and the number and the machine after it
+-- a machine, a call on it that reports nothing, and the number and the machine after it
 abbrev Outcomes : (Machine → Call → Answered) → List (Machine × Call × ℕ × Machine) → Type 0
 Outcomes made rows = map (λ row. made (row .0) (row .1)) rows ≡ map (λ row. gives (row .2) (row .3)) rows
 
@@ -135,7 +135,7 @@ pub last-page-outcomes :
     let r = live 0x0300 0xFFFF User false in
     let m = wide (last 0x0300 0x8200) r in
     let page : Page = record { 0 = 127 } in
-    Outcomes callOf
+    (Outcomes callOf
     ((m, Access One 1 65023, 9, withLast (denied 7 1 65023) (wide (last 0x0300 0x8200) (live 0x0300 0xFFFF User true)))
     ∷ (m, Access One 1 65536, 3, m)
     ∷ (m, Grant 0 page (record { 0 = 15 }), 0, wide (last 0x8300 0x8200) r)
@@ -152,9 +152,10 @@ pub last-page-outcomes :
     ∷ (m, SetMask 0xFC00, 0, wide (last 0x0300 0x8200) (live 0x0300 0xFC00 User false))
     ∷ (m, Return, 7, m)
     ∷ (m, AskViolation, 7, m)
-    ∷ [])
-unfolding callOf checksOf accessChecks changeChecks effectOf after isSound prevailing domainBit trailingZeros
-last-page-outcomes = refl
+    ∷ []))
+    × (callOf m (Access One 0 65535) ≡ goesThrough 8 m)
+unfolding callOf checksOf accessChecks changeChecks effectOf after isSound prevailing givingDomain domainBit trailingZeros
+last-page-outcomes = (refl, refl)
 
 -- ---- what accesses name: two pages of 32 bytes whose fields share other domains with the local context, 3 and 7 to 15, than with the global context or the
 -- mask alone

@@ -1,5 +1,5 @@
--- What a command does to the fields as a global context sees them, its own program's and another's, and what no command
--- changes. An accepted grant or revocation changes one domain of lower level than the prevailing one, and that one the live
+-- What a command does to the fields as a global context sees them, its own program's and another's, what it reports to its own, and what no
+-- command changes. An accepted grant or revocation changes one domain of lower level than the prevailing one, and that one the live
 -- global context holds: so a context with no domain below it sees nothing, and the prevailing domain does not move.
 use Prim.Native.Nat.{ℕ, zero, suc, _≤_, _<_}
 use mathlib.Core.Path.{_≡_, refl, sym, ap, _∙_}
@@ -16,8 +16,7 @@ use Rattle.rules.specs.declared.registers.Registers.{Registers}
 use Rattle.rules.specs.declared.domains.Prevailing.{Prevailing}
 use Rattle.rules.specs.declared.domains.Prevailing.the-variants.{At}
 use Rattle.rules.proofs.Bits.{and-assoc, unseen, seen-alike, unmoved}
-use Rattle.rules.proofs.Decided.{and-both}
-use Rattle.rules.proofs.Lowest.{held-both}
+use Rattle.rules.proofs.Lowest.{both-held}
 use Rattle.machine.specs.Machine.{isSound, placeOf, fieldOf, withFields, withRegisters, withLast}
 use Rattle.machine.specs.Calls.{callOf, checksOf, accessChecks, changeChecks, effectOf, deniedBy, isDenied, isOutsideMemory, numberOf, pageOf, reportOf, touched}
 use Rattle.machine.specs.declared.record.Machine.{Machine}
@@ -168,9 +167,7 @@ command-unseen m (a-change granting right page s) context small below =
     after-cases (λ end. view context end ≡ view context m) (numberOf m call) m call
     (λ h.
     let e = entitled m granting right page s h in
-    let own = m .registers .context in
-    let mask = m .registers .mask in
-    let held = and-both (holds own (e .domain)) (holds mask (e .domain)) (sym (held-both own mask (e .domain)) ∙ e .held) .0 in
+    let held = both-held (m .registers .context) (m .registers .mask) (e .domain) (e .held) .0 in
     let lacks = below right (page .0) (e .domain) (s .0) (e .right-known) (e .page-counted) (e .prevails) held (e .lower) in
     rw (change-effect m right page s granting) (change-unseen m granting right page s e context small lacks))
     (λ _. refl) refl

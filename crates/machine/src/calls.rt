@@ -149,11 +149,11 @@ fn any_denied(
     }
 }
 
-// What an access reports, from the field of its first byte's page: where it names a domain, the one through which that page gives the right (RULES 3.3).
-fn named(names: bool, field: u16, local: u16) -> Report
-    ensures { λ r. ⌜ r ≡ pick names (Through (asDomain (givingDomain field local))) Nothing ⌝ }
+// What an access reports, from the field of its first byte's page: where it is done in user mode, the domain through which that page gives the right (RULES 3.3).
+fn name_where(done: bool, field: u16, local: u16) -> Report
+    ensures { λ r. ⌜ r ≡ pick done (Through (asDomain (givingDomain field local))) Nothing ⌝ }
 {
-    if !names {
+    if !done {
         return Report::Nothing;
     }
     Report::Through(Domain(giving_domain(field, local)))
@@ -210,7 +210,7 @@ impl Machine {
     }
 
     // The access on lent fields (RULES 2.10). The machine that comes back keeps its own. The first byte's field is read whether or not a domain is named, and before a
-    // violation is kept: in other places it costs a run, or calls by value, more (docs/PERFORMANCE.md).
+    // violation is kept: of the places that were tried this one costs a run nothing and the mix of calls by value least (docs/PERFORMANCE.md).
     pub fn access_lent(mut self, fields: &[u16], width: Width, right: u8, address: u32) -> Answered
         ensures { λ r. ⌜ r ≡ keeping self (uncheckedOf (withFields (now (fields .entry)) self) (Call.Access width right address)) ⌝ }
     {
@@ -219,7 +219,7 @@ impl Machine {
         let after = registers.or_where(number == 9, registers.with_pending(true));
         let mut violations = self.violations;
         let field = field_at(fields, self.exponent, right, address, 0);
-        let report = named(
+        let report = name_where(
             (number == 0) & !registers.privileged(),
             field,
             registers.local(),

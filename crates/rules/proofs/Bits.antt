@@ -14,6 +14,7 @@ use native.Mathlib.Omega.{arith}
 use Rattle.rules.specs.Domains.{domainBit, holds, withBit, withoutBit, prevailing}
 use Rattle.rules.specs.Refusals.{pick}
 use Rattle.rules.specs.declared.domains.Prevailing.the-variants.{Absent, At}
+use Rattle.rules.proofs.Decided.{and-both}
 use Rattle.rules.proofs.Laws.{domain-bit}
 
 -- ---- AND and OR, digit by digit
@@ -21,7 +22,7 @@ use Rattle.rules.proofs.Laws.{domain-bit}
 two-pos : zero < 2
 two-pos = zero-lt-suc 1
 
-digit : (n : ℕ) → n % 2 < 2
+pub digit : (n : ℕ) → n % 2 < 2
 digit n = mod-lt n two-pos
 
 -- the upper digits of the two operations, and the last one
@@ -63,15 +64,16 @@ every (suc n) test = test n && every n test
 every-holds : (n : ℕ) (test : ℕ → Bool) → every n test ≡ true → (s : ℕ) → s < n → test s ≡ true
 unfolding every
 every-holds zero test all s h = absurd (omega arith)
-every-holds (suc n) test all s h = both (test n) refl all (eqb s n) refl (every-holds n test)
+every-holds (suc n) test all s h = split (eqb s n) refl (every-holds n test)
   where
-    both : (t : Bool) → test n ≡ t → t && every n test ≡ true → (b : Bool) → eqb s n ≡ b
-        → (every n test ≡ true → (k : ℕ) → k < n → test k ≡ true) → test s ≡ true
-    both false e f b g rest = cc
-    both true e f true g rest = rw (eqb-true s n g) e
-    both true e f false g rest =
-        let less = eqb-false s n g in
-        rest f s (omega arith)
+    both : (test n ≡ true) × (every n test ≡ true)
+    both = and-both (test n) (every n test) all
+
+    split : (b : Bool) → eqb s n ≡ b → (every n test ≡ true → (k : ℕ) → k < n → test k ≡ true) → test s ≡ true
+    split true e rest = rw (eqb-true s n e) (both .0)
+    split false e rest =
+        let less = eqb-false s n e in
+        rest (both .1) s (omega arith)
 
 -- every domain's number: its bit with the others makes up all sixteen, and below it all bits are kept when it is cleared
 parts : (s : ℕ) → s < 16 → bitOr (65535 - 2 ^ s) (2 ^ s) ≡ 65535

@@ -8,11 +8,12 @@ use lib.Bits.{bitAnd, and-le-r, and-mask, and-high, and-mod, and-shr}
 use lib.Count.{trailingZeros, under}
 use lib.Dec.{eqb, ltb}
 use lib.Pow.{pow-pos, pow-add}
-use native.Mathlib.Nat.{mod-lt, zero-lt-suc, pow-suc, pow-succ', div-div-eq-div-mul, div-one, zero-mul, suc-mul}
+use native.Mathlib.Nat.{pow-suc, pow-succ', div-div-eq-div-mul, div-one, zero-mul, suc-mul}
 use native.Mathlib.Omega.{arith}
 use Rattle.rules.specs.Domains.{domainBit, holds, prevailing, givingDomain}
 use Rattle.rules.specs.Refusals.{pick}
 use Rattle.rules.specs.declared.domains.Prevailing.the-variants.{Absent, At}
+use Rattle.rules.proofs.Bits.{digit}
 use Rattle.rules.proofs.Decided.{and-both}
 use Rattle.rules.proofs.Laws.{domain-bit, no-domain-held}
 
@@ -73,9 +74,6 @@ held-both one two s = split (ltb s 16) refl
     digits (suc zero) (suc (suc y)) _ h = absurd (omega arith)
     digits (suc (suc x)) y h _ = absurd (omega arith)
 
-    digit : (n : ℕ) → n % 2 < 2
-    digit n = mod-lt n (zero-lt-suc 1)
-
     split : (b : Bool) → ltb s 16 ≡ b → holds (bitAnd one two) s ≡ holds one s && holds two s
     split true e =
         let known = ltb-true s 16 e in
@@ -84,6 +82,9 @@ held-both one two s = split (ltb s 16) refl
     split false e =
         let past = ltb-false s 16 e in
         rw (no-domain-held (bitAnd one two) s past, no-domain-held one s past)
+
+pub both-held : (one two s : ℕ) → holds (bitAnd one two) s ≡ true → (holds one s ≡ true) × (holds two s ≡ true)
+both-held one two s h = and-both (holds one s) (holds two s) (sym (held-both one two s) ∙ h)
 
 -- the lowest set digit of a set that is not empty is a domain that it holds, and it holds none of lower number
 lowest-held : (set : ℕ) → eqb set 0 ≡ false → set < 65536
@@ -126,5 +127,5 @@ unfolding givingDomain
 giving-lowest field local small share =
     let d = trailingZeros 16 (bitAnd field local) in
     let lowest = lowest-held (bitAnd field local) share (omega (arith, and-le-r field local)) in
-    let both = and-both (holds field d) (holds local d) (sym (held-both field local d) ∙ lowest .1) in
+    let both = both-held field local d (lowest .1) in
     (lowest .0, both .0, both .1, λ s below. sym (held-both field local s) ∙ lowest .2 s below)

@@ -1,4 +1,4 @@
--- Domains as bits of a field or a context, and the domain that prevails in a field (RULES, section 1).
+-- Domains as bits of a field or a context, the domain that prevails in a field, and the one that a field shares with a context (RULES, section 1).
 use Prim.Native.Nat.{ℕ, _-_, _^_}
 use mathlib.Core.Bool.{Bool, true, not}
 use lib.Bits.{bitAnd, bitOr}

@@ -1,4 +1,4 @@
-// Domains as bits of a field or a context, and the domain that prevails in a field (RULES, section 1).
+// Domains as bits of a field or a context, the domain that prevails in a field, and the one that a field shares with a context (RULES, section 1).
 ghost use mathlib.Core.Path.{_≡_};
 ghost use Rattle.rules.specs.Domains.{domainBit, holds, withBit, withoutBit, prevailing, givingDomain, isOutside, isNotLower};
 
@@ -68,8 +68,8 @@ pub fn prevailing_of(field: u16) -> Prevailing
     Prevailing::At(u16::trailing_zeros(field) as u16)
 }
 
-// The lowest-numbered domain that a field and a local context both hold, through which the field gives its right (RULES 1.17); 16 where they share none, which is
-// never reported.
+// The lowest-numbered domain that a field and a local context both hold, through which the field gives its right (RULES 1.17); 16 where they share none, which no
+// call by value reports (`named-lowest`, machine/proofs/Named.antt).
 pub fn giving_domain(field: u16, local: u16) -> u16
     ensures { λ r. ⌜ r ≡ givingDomain field local ⌝ }
 {

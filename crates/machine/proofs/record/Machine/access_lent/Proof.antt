@@ -21,7 +21,7 @@ returns c =
     let reading : tie.After-field-at = (search) in
     let asking : tie.After-privileged = (search) in
     let local : tie.After-local = (search) in
-    let naming : tie.After-named = (search) in
+    let naming : tie.After-name-where = (search) in
     let a = start .args in
     let n = numbering .access-at .result in
     ap (keeping (a .self))
@@ -30,7 +30,7 @@ returns c =
     (rw (choosing .or-where .ensures, choosing .before .with-pending .ensures))
     (⊎-elim (λ w. ap (λ (v : Violations). v .last) (w .1) ∙ rw (eq-eqb n 9 (w .0 .taken))) (λ w. ap (λ (v : Violations). v .last) (w .1) ∙ rw (ne-eqb n 9 (w .0 .left)))
     (c .if1 .came))
-    (naming .named .ensures ∙ rw (reading .field-at .ensures, add-zero (a .address), local .local .ensures, asking .privileged .ensures)))
+    (naming .name-where .ensures ∙ rw (reading .field-at .ensures, add-zero (a .address), local .local .ensures, asking .privileged .ensures)))
 
 pub access-lent-spec : {M : Type 1} → statement M
 access-lent-spec = tie.close (tie.spec (λ c κs. search needs) (λ c κs. search needs) (λ c κs. search needs) (λ c κs. search needs) (λ c κs. search needs) (λ c κs. search needs)
