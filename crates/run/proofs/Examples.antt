@@ -1,4 +1,4 @@
--- Computed examples: each kind of record with parts that differ, and the sample node's answers (RULES 6.5, 6.11).
+-- Computed examples: each kind of record with parts that differ, and what the sample node answers and reports (RULES 6.5, 6.11).
 use Prim.Native.Nat.{ℕ}
 use mathlib.Core.Path.{_≡_, refl, ap}
 use mathlib.Core.List.{List, [], _∷_, _++_, map}

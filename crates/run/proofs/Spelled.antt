@@ -1,5 +1,5 @@
--- Records and runs spelled out for any input: the call of each kind, the answers in a row, and what is sent into any room. The tables of Pinned try
--- inputs that are written out; here none is left out.
+-- Records and runs spelled out for any input: the call of each kind, the steps in a row, what they answer and report, and what is sent into any room. The
+-- tables of Pinned try inputs that are written out; here none is left out.
 use Prim.Native.Nat.{ℕ, zero, suc, _+_, _*_}
 use mathlib.Core.Path.{_≡_, refl}
 use mathlib.Core.List.{List, [], _∷_, map}

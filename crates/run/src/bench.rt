@@ -1,4 +1,4 @@
-// The run for the bench: the answers into a lent buffer (RULES, section 7).
+// The run: its answers into a lent buffer, and what they name into another; and the bench's call, which wants the answers alone (RULES, section 7).
 use crate::records::decode;
 use crate::records::step;
 use image::bytes::byte_at;
@@ -53,7 +53,8 @@ fn name_of(report: Report) -> u32
     }
 }
 
-// What a report names, stored at a place of a lent buffer of names; past its end nothing is stored, so that who wants no names lends no places.
+// What a report names, stored at a place of a lent buffer of names; past its end nothing is stored, so that who wants no names lends no
+// place past the load's.
 fn store_name(names: &mut [u32], at: usize, report: Report)
     ensures { λ _. ⌜ now (names .exit) ≡ set (now (names .entry)) at (nameOf report) ⌝ }
 {
@@ -133,7 +134,7 @@ pub fn run_named(input: &[u8], answers: &mut [u8], names: &mut [u32]) -> usize
     count
 }
 
-// The bench's call (RULES 7.1 to 7.5): the run, with no place for a name.
+// The bench's call (RULES 7.1 to 7.5): the run, lent the load's place of names alone, which gets none.
 #[no_mangle]
 pub extern "C" fn bench_run(input: &[u8], answers: &mut [u8]) -> usize
     ensures { λ r. ⌜ r ≡ length (sent (now (input .entry)) (length (now (answers .entry)))) ⌝ }

@@ -1,4 +1,4 @@
--- Computed texts (RULES, section 8): the sample node's, by its answers; with a remainder; of a refused load; and decimal numbers. Also the
+-- Computed texts (RULES, section 8): the sample node's, by its answers and reports; with a remainder; of a refused load; and decimal numbers. Also the
 -- word for a long input.
 use mathlib.Core.Path.{_≡_, refl, ap}
 use mathlib.Core.List.{List, [], _∷_, _++_, map}

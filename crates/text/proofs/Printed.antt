@@ -1,4 +1,4 @@
--- The text of an input from its parts, and how long they are at the most.
+-- The text of an input from its parts, the answers and names that a run gives, and how long they are at the most.
 use Prim.Native.Nat.{ℕ, suc, _+_, _-_, _*_, _%_, _≤_, min}
 use mathlib.Core.Path.{_≡_, refl, ap, _∙_}
 use mathlib.Core.Bool.{Bool, true, false}

@@ -1,4 +1,4 @@
--- Texts put one after another are their join put at once; and how long the pieces of a line are at the most.
+-- Texts put one after another are their join put at once; what a name stands for in a line; and how long the pieces of a line are at the most.
 use Prim.Native.Nat.{ℕ, zero, suc, _+_, _-_, _/_, _%_, _≤_, _<_}
 use mathlib.Core.Path.{_≡_, refl, ap, sym, _∙_}
 use mathlib.Core.Bool.{Bool, true, false}

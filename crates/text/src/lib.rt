@@ -1,4 +1,4 @@
-// The text that `pagerun` prints, made into a lent buffer from the answers of the run (RULES, section 8). Each writer puts its text at a
+// The text that `pagerun` prints, made into a lent buffer from the answers of the run and what they name (RULES, section 8). Each writer puts its text at a
 // place where the caller has seen that there is room, and answers the place past it.
 use run::calls_start;
 use run::run_named;
@@ -46,7 +46,7 @@ fn put_leading(out: &mut [u8], at: usize, n: u32, power: u32) -> usize
     at
 }
 
-// A number in decimal.
+// A number below 100,000 in decimal; of a greater one the last five digits.
 fn put_decimal(out: &mut [u8], at: usize, n: u32) -> usize
     requires { ⌜ at + 5 ≤ length (now out) ⌝ }
     ensures { λ r. ⌜ Put (now (out .entry)) at (decimalOf n) (now (out .exit)) r ⌝ }
@@ -58,7 +58,7 @@ fn put_decimal(out: &mut [u8], at: usize, n: u32) -> usize
     put_byte(out, d, 48 + (n % 10) as u8)
 }
 
-// A space and a number in decimal.
+// A space and such a number.
 fn put_column(out: &mut [u8], at: usize, n: u32) -> usize
     requires { ⌜ at + 6 ≤ length (now out) ⌝ }
     ensures { λ r. ⌜ Put (now (out .entry)) at (column (decimalOf n)) (now (out .exit)) r ⌝ }

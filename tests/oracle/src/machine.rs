@@ -162,7 +162,7 @@ impl Machine {
     }
 
     /// The domain through which the page of a byte gives a right: the highest level among those that
-    /// the field and the local context both hold (RULES 3.3). It is none where they share none. The
+    /// the field and the local context both hold (RULES 1.17). It is none where they share none. The
     /// domains are asked one after another, from the highest level down, for each of the three words
     /// that must hold them: the search for the prevailing domain sees the field alone and is of no
     /// use here. Only for a right of 0 or 1 and a byte in memory.

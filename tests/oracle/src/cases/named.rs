@@ -1,5 +1,5 @@
 //! The domain that an allowed access in user mode names, and everything that names none (RULES
-//! 2.13, 3.3, 8.3). The third part of a step is the domain, written by hand as the answer is.
+//! 1.17, 2.13, 3.3, 8.3). The third part of a step is the domain, written by hand as the answer is.
 //!
 //! The words are chosen so that other readings come out with other domains: the lowest of the
 //! field, the context, the mask or any two of them alone, the highest-numbered, the other right's,
