@@ -118,7 +118,7 @@ pub next-step : (input : List ℕ) (m : Machine) (at : ℕ) {r : Answered} → a
 unfolding stepsFrom
 next-step input m at h e = rw (next-record input at h, e)
 
--- a turn of the loop over the calls, for each buffer that it stores in: the first of a list stored at a place, and the rest behind it, are the whole list
--- from that place on
-pub turn : (buffer : List ℕ) (i first : ℕ) {rest all : List ℕ} → all ≡ first ∷ rest → sets (set buffer i first) (i + 1) rest ≡ sets buffer i all
-turn buffer i first e = rw (add-one, e)
+-- a turn of a loop that stores a list, one member a turn: the first stored at a place, and the rest from the next place on, are the whole list from that
+-- place on
+pub turn : (buffer : List ℕ) (i next first : ℕ) {rest all : List ℕ} → next ≡ i + 1 → all ≡ first ∷ rest → sets (set buffer i first) next rest ≡ sets buffer i all
+turn buffer i next first behind e = rw (behind, add-one, e)

@@ -3,11 +3,11 @@ use Prim.Native.Nat.{ℕ, zero, suc, _+_, _-_, _/_, _%_, _≤_, _<_}
 use mathlib.Core.Path.{_≡_, refl, ap, sym, _∙_}
 use mathlib.Core.Bool.{Bool, true, false}
 use mathlib.Core.List.{List, [], _∷_, _++_, map}
-use native.Mathlib.Nat.{add-zero, add-suc}
+use native.Mathlib.Nat.{add-zero}
 use native.Mathlib.Numerals.{add-one}
 use native.Mathlib.Omega.{arith}
 use lib.Dec.{leb}
-use lib.ListN.{length, getD, set, drop, length-append}
+use lib.ListN.{length, getD, drop, length-append}
 use lib.Seq.{sets, length-sets, drop-cons}
 use Rattle.rules.specs.Refusals.{pick}
 use Rattle.machine.specs.declared.record.Report.{Report}
@@ -64,11 +64,6 @@ named-above (suc s) some = ap decimalOf (omega arith)
 pub line-most : (i answer : ℕ) (report : Report) → length (lineOf i answer report) ≤ 18
 unfolding lineOf
 line-most i answer report = simp length-append (omega (arith, decimal-most i, decimal-most answer, name-most report))
-
--- a turn of the loop over bytes: the byte at i stored at its place, and those past it behind it, are the bytes from i on
-pub turn-byte : (out bytes : List ℕ) (at i : ℕ) → i < length bytes
-    → sets (set out (at + i) (getD bytes i 0)) (at + (i + 1)) (drop (i + 1) bytes) ≡ sets out (at + i) (drop i bytes)
-turn-byte out bytes at i h = rw (drop-cons bytes i 0 h, add-one, add-suc)
 
 -- a turn of the loop over the answers: the line of the answer at i with its name, put, and the lines of those past it, put behind it, are the lines of
 -- the answers from i on

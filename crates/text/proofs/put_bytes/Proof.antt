@@ -2,12 +2,14 @@
 -- The measure is how many are left.
 use Prim.Native.Nat.{_+_, _-_, _≤_}
 use mathlib.Core.Path.{_≡_, refl, _∙_}
+use mathlib.Core.List.{_∷_}
 use native.Mathlib.Nat.{add-zero}
+use native.Mathlib.Numerals.{add-one}
 use native.Mathlib.Omega.{arith}
 use lib.ListN.{length, getD, drop, length-set, drop-of-length-le}
-use lib.Seq.{sets}
+use lib.Seq.{sets, drop-cons}
 use borrow.Author.Needs.{needs}
-use Rattle.text.proofs.Puts.{turn-byte}
+use Rattle.run.proofs.Steps.{turn}
 use Rattle.text.proofs.put_bytes.Statement.{statement}
 use Rattle.text.proofs.put_bytes.Tie as tie
 
@@ -25,10 +27,12 @@ loop-again : tie.Need-loop-again Inv-loop μ-loop
 loop-again c =
     let start : tie.Start Inv-loop μ-loop = (search) in
     let l = c .before .before .loop in
-    let a = start .args in (
+    let a = start .args in
+    let bytes = a .bytes .now in
+    let left : drop (l .i) bytes ≡ getD bytes (l .i) 0 ∷ drop (l .i + 1) bytes = rw add-one (drop-cons bytes (l .i) 0 (c .before .loop-test .taken)) in (
       omega arith,
-      length-set (l .out) (a .at + l .i) (getD (a .bytes .now) (l .i) 0) ∙ l .inv .1,
-      turn-byte (l .out) (a .bytes .now) (a .at) (l .i) (c .before .loop-test .taken) ∙ l .inv .2,
+      length-set (l .out) (a .at + l .i) (getD bytes (l .i) 0) ∙ l .inv .1,
+      turn (l .out) (a .at + l .i) (a .at + (l .i + 1)) _ (omega arith) left ∙ l .inv .2,
     )
 
 returns : tie.Need-returns Inv-loop μ-loop

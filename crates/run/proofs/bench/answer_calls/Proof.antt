@@ -75,12 +75,12 @@ loop-again c =
       omega arith,
       length-set (l .answers) (l .i) (stepping .step .result .number) ∙ l .inv .2,
       simp length-set (omega arith),
-      turn (l .answers) (l .i) _ (ap numbersOf next) ∙ l .inv .4,
+      turn (l .answers) (l .i) _ _ refl (ap numbersOf next) ∙ l .inv .4,
       search needs,
       search needs,
       ap (λ (r : Answered). isSound (r .machine)) stepped ∙ step-sound m _ (l .inv .7),
       rw named (length-set (l .names) (l .i) _) ∙ l .inv .8,
-      rw named (turn (l .names) (l .i) _ (ap (λ (steps : List Answered). map nameOf (reportsOf steps)) next)) ∙ l .inv .9,
+      rw named (turn (l .names) (l .i) _ _ refl (ap (λ (steps : List Answered). map nameOf (reportsOf steps)) next)) ∙ l .inv .9,
     )
 
 same-length : tie.Need-same-length Inv-loop μ-loop
