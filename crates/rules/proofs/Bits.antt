@@ -57,11 +57,11 @@ and-or =
 -- ---- a domain that a context does not hold
 
 -- a test that holds of every number below n
-every : ℕ → (ℕ → Bool) → Bool
+unfoldable pub every : ℕ → (ℕ → Bool) → Bool
 every zero test = true
 every (suc n) test = test n && every n test
 
-every-holds : (n : ℕ) (test : ℕ → Bool) → every n test ≡ true → (s : ℕ) → s < n → test s ≡ true
+pub every-holds : (n : ℕ) (test : ℕ → Bool) → every n test ≡ true → (s : ℕ) → s < n → test s ≡ true
 unfolding every
 every-holds zero test all s h = absurd (omega arith)
 every-holds (suc n) test all s h = split (eqb s n) refl (every-holds n test)

@@ -2,9 +2,9 @@
 -- the lowest-numbered one that a field and a local context both hold. By induction on the digits: those below the lowest set one are 0, and it is 1.
 use Prim.Native.Nat.{ℕ, zero, suc, _+_, _-_, _*_, _/_, _%_, _^_, _<_}
 use mathlib.Core.Path.{_≡_, refl, sym, ap, _∙_}
-use mathlib.Core.Bool.{Bool, true, false, not, _&&_, true≢false}
+use mathlib.Core.Bool.{Bool, true, false, not, _&&_, _||_, Bool·beq, true≢false}
 use borrow.Author.Tests.{eqb-true, eqb-false, ne-eqb, ltb-true, ltb-false}
-use lib.Bits.{bitAnd, and-le-r, and-mask, and-high, and-mod, and-shr}
+use lib.Bits.{bitAnd, bitOr, and-le-r, and-mask, and-high, and-mod, and-shr, or-mod, or-shr}
 use lib.Count.{trailingZeros, under}
 use lib.Dec.{eqb, ltb}
 use lib.Pow.{pow-pos, pow-add}
@@ -13,7 +13,7 @@ use native.Mathlib.Omega.{arith}
 use Rattle.rules.specs.Domains.{domainBit, holds, prevailing, givingDomain}
 use Rattle.rules.specs.Refusals.{pick}
 use Rattle.rules.specs.declared.domains.Prevailing.the-variants.{Absent, At}
-use Rattle.rules.proofs.Bits.{digit}
+use Rattle.rules.proofs.Bits.{digit, every, every-holds}
 use Rattle.rules.proofs.Decided.{and-both}
 use Rattle.rules.proofs.Laws.{domain-bit, no-domain-held}
 
@@ -46,7 +46,7 @@ below-unset (suc k) n s below = go (n % 2) refl s below (below-unset k (n / 2))
     go (suc r) e t h rest = absurd (omega arith)
 
 -- a field holds a domain exactly where the digit of its number is set
-held-digit : (field s : ℕ) → s < 16 → holds field s ≡ not (eqb (field / 2 ^ s % 2) 0)
+pub held-digit : (field s : ℕ) → s < 16 → holds field s ≡ not (eqb (field / 2 ^ s % 2) 0)
 held-digit field s known = rw part (ap not (scaled (field / 2 ^ s % 2)))
   where
     alone : 2 ^ s ≡ 2 ^ (1 + s) - 2 ^ s
@@ -63,25 +63,63 @@ held-digit field s known = rw part (ap not (scaled (field / 2 ^ s % 2)))
 pub held-moved : (field s : ℕ) → s < 16 → not (eqb (bitAnd (field / 2 ^ s) 1) 0) ≡ holds field s
 held-moved field s known = rw (and-mask (field / 2 ^ s) 1, held-digit field s known)
 
--- RULES 1.6: what two sets share holds the domains that both hold, and no others
-pub held-both : (one two s : ℕ) → holds (bitAnd one two) s ≡ holds one s && holds two s
-held-both one two s = split (ltb s 16) refl
-  where
-    digits : (x y : ℕ) → x < 2 → y < 2 → not (eqb (bitAnd x y) 0) ≡ not (eqb x 0) && not (eqb y 0)
-    digits zero y _ _ = refl
-    digits (suc zero) zero _ _ = refl
-    digits (suc zero) (suc zero) _ _ = refl
-    digits (suc zero) (suc (suc y)) _ h = absurd (omega arith)
-    digits (suc (suc x)) y h _ = absurd (omega arith)
+-- what holds of the digits 0 and 1
+two-digits : (P : ℕ → ℕ → Type 0) → P 0 0 → P 0 1 → P 1 0 → P 1 1 → (x y : ℕ) → x < 2 → y < 2 → P x y
+two-digits P zz zo oz oo zero zero _ _ = zz
+two-digits P zz zo oz oo zero (suc zero) _ _ = zo
+two-digits P zz zo oz oo (suc zero) zero _ _ = oz
+two-digits P zz zo oz oo (suc zero) (suc zero) _ _ = oo
+two-digits P zz zo oz oo zero (suc (suc y)) _ h = absurd (omega arith)
+two-digits P zz zo oz oo (suc zero) (suc (suc y)) _ h = absurd (omega arith)
+two-digits P zz zo oz oo (suc (suc x)) y h _ = absurd (omega arith)
 
-    split : (b : Bool) → ltb s 16 ≡ b → holds (bitAnd one two) s ≡ holds one s && holds two s
+-- a set that is made of two, bit by bit, holds a domain as the bits of the two say
+made-held : (op : ℕ → ℕ → ℕ) (said : Bool → Bool → Bool)
+    → ((a b k : ℕ) → op a b / 2 ^ k ≡ op (a / 2 ^ k) (b / 2 ^ k)) → ((a b k : ℕ) → op a b % 2 ^ k ≡ op (a % 2 ^ k) (b % 2 ^ k))
+    → ((x y : ℕ) → x < 2 → y < 2 → not (eqb (op x y) 0) ≡ said (not (eqb x 0)) (not (eqb y 0))) → said false false ≡ false
+    → (one two s : ℕ) → holds (op one two) s ≡ said (holds one s) (holds two s)
+made-held op said moved cut digits none one two s = split (ltb s 16) refl
+  where
+    split : (b : Bool) → ltb s 16 ≡ b → holds (op one two) s ≡ said (holds one s) (holds two s)
     split true e =
         let known = ltb-true s 16 e in
-        rw (held-digit (bitAnd one two) s known, held-digit one s known, held-digit two s known, and-shr one two s, and-mod (one / 2 ^ s) (two / 2 ^ s) 1)
+        rw (held-digit (op one two) s known, held-digit one s known, held-digit two s known, moved one two s, cut (one / 2 ^ s) (two / 2 ^ s) 1)
         (digits (one / 2 ^ s % 2) (two / 2 ^ s % 2) (digit (one / 2 ^ s)) (digit (two / 2 ^ s)))
     split false e =
         let past = ltb-false s 16 e in
-        rw (no-domain-held (bitAnd one two) s past, no-domain-held one s past)
+        rw (no-domain-held (op one two) s past, no-domain-held one s past, no-domain-held two s past) (sym none)
+
+-- RULES 1.6: what two sets share holds the domains that both hold, and no others
+pub held-both : (one two s : ℕ) → holds (bitAnd one two) s ≡ holds one s && holds two s
+held-both =
+    made-held bitAnd _&&_ and-shr and-mod
+    (two-digits (λ x y. not (eqb (bitAnd x y) 0) ≡ not (eqb x 0) && not (eqb y 0)) refl refl refl refl) refl
+
+-- what two sets come to together holds the domains that either holds
+pub held-either : (one two s : ℕ) → holds (bitOr one two) s ≡ holds one s || holds two s
+held-either =
+    made-held bitOr _||_ or-shr or-mod
+    (two-digits (λ x y. not (eqb (bitOr x y) 0) ≡ not (eqb x 0) || not (eqb y 0)) refl refl refl refl) refl
+
+-- the bit of a domain holds that domain and no other
+pub bit-held : (d s : ℕ) → d < 16 → holds (domainBit d) s ≡ eqb s d
+unfolding domainBit every
+bit-held d s known = split (ltb s 16) refl
+  where
+    same : (a b : Bool) → Bool·beq a b ≡ true → a ≡ b
+    same true true h = refl
+    same true false h = sym h
+    same false true h = h
+    same false false h = refl
+
+    split : (b : Bool) → ltb s 16 ≡ b → holds (domainBit d) s ≡ eqb s d
+    split true e =
+        same (holds (domainBit d) s) (eqb s d)
+        (every-holds 16 (λ n. Bool·beq (holds (domainBit d) n) (eqb n d))
+        (every-holds 16 (λ k. every 16 (λ n. Bool·beq (holds (domainBit k) n) (eqb n k))) refl d known) s (ltb-true s 16 e))
+    split false e =
+        let past = ltb-false s 16 e in
+        rw (no-domain-held (domainBit d) s past, ne-eqb s d (omega arith))
 
 pub both-held : (one two s : ℕ) → holds (bitAnd one two) s ≡ true → (holds one s ≡ true) × (holds two s ≡ true)
 both-held one two s h = and-both (holds one s) (holds two s) (sym (held-both one two s) ∙ h)

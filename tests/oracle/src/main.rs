@@ -7,6 +7,8 @@ mod histories;
 mod image;
 mod inputs;
 mod machine;
+mod planner;
+mod plans;
 mod random;
 mod rounds;
 mod run;
@@ -24,7 +26,9 @@ use std::process::ExitCode;
 
 const USAGE: &str = "usage: oracle text | answers | compare SEED RUNS
        oracle cases-input | cases-output | cases-list | cases-text
-       oracle runs-random SEED RUNS | writes-random SEED RUNS";
+       oracle runs-random SEED RUNS | writes-random SEED RUNS
+       oracle plans-input | plans-output | plans-list | plans-text
+       oracle plans-random SEED RUNS";
 const NUMBERS: &str = "SEED and RUNS are decimal numbers";
 
 fn main() -> ExitCode {
@@ -40,12 +44,19 @@ fn main() -> ExitCode {
         ["cases-output"] => stored::output().into_bytes(),
         ["cases-list"] => stored::listing().into_bytes(),
         ["cases-text"] => stored::text(&standard_input()).into_bytes(),
-        [sort @ ("runs-random" | "writes-random"), seed, runs] => {
+        ["plans-input"] => plans::input(),
+        ["plans-output"] => plans::output().into_bytes(),
+        ["plans-list"] => plans::listing().into_bytes(),
+        ["plans-text"] => plans::text(&standard_input()).into_bytes(),
+        [sort @ ("runs-random" | "writes-random" | "plans-random"), seed, runs] => {
             let (Ok(seed), Ok(runs)) = (seed.parse(), runs.parse()) else {
                 return fail(NUMBERS);
             };
-            let file =
-                if sort == "runs-random" { cases::many::file(seed, runs) } else { writes::many::file(seed, runs) };
+            let file = match sort {
+                "runs-random" => cases::many::file(seed, runs),
+                "writes-random" => writes::many::file(seed, runs),
+                _ => plans::many::file(seed, runs),
+            };
             match file {
                 Ok(file) => file,
                 Err(wrong) => {

@@ -1,0 +1,80 @@
+-- Lists of what belongs to each number below a count: what stands at a place, and how a loop fills and alters them. By the list's elements.
+use Prim.Native.Nat.{ℕ, zero, suc, _+_, _-_, _<_, _≤_}
+use mathlib.Core.Path.{_≡_, refl, sym, ap, _∙_}
+use mathlib.Core.Bool.{Bool, true, false}
+use mathlib.Core.List.{List, [], _∷_}
+use borrow.Author.Tests.{eqb-true, eqb-false}
+use lib.Dec.{eqb, eqb·zero-suc, eqb·suc-zero, eqb·suc-suc}
+use lib.ListN.{length, getD, set, drop, drop-of-length-le}
+use lib.Seq.{drop-cons}
+use native.Mathlib.Numerals.{add-one}
+use native.Mathlib.Omega.{arith}
+use Rattle.rules.specs.Refusals.{pick}
+use Rattle.machine.specs.Calls.{any}
+use Rattle.image.specs.Description.{pad}
+use Rattle.planner.specs.Plan.{each}
+
+module _ {A : Type 0} where
+  pub each-length : (n : ℕ) (of : ℕ → A) → length (each n of) ≡ n
+  unfolding each
+  each-length zero of = refl
+  each-length (suc n) of = ap suc (each-length n (λ k. of (suc k)))
+
+  pub each-at : (z : A) (n : ℕ) (of : ℕ → A) (k : ℕ) → k < n → getD (each n of) k z ≡ of k
+  unfolding each
+  each-at z zero of k h = absurd (omega arith)
+  each-at z (suc n) of zero h = refl
+  each-at z (suc n) of (suc k) h = each-at z n (λ k. of (suc k)) k (omega arith)
+
+  pub each-same : (n : ℕ) (f g : ℕ → A) → ((k : ℕ) → k < n → f k ≡ g k) → each n f ≡ each n g
+  unfolding each
+  each-same zero f g same = refl
+  each-same (suc n) f g same = rw (same 0 (omega arith), each-same n (λ k. f (suc k)) (λ k. g (suc k)) (λ k h. same (suc k) (omega arith)))
+
+  -- what is stored at a place is what belongs to its number from then on
+  pub each-set : (n : ℕ) (of : ℕ → A) (p : ℕ) (v : A) → set (each n of) p v ≡ each n (λ k. pick (eqb k p) v (of k))
+  unfolding each
+  each-set zero of p v = refl
+  each-set (suc n) of zero v = simp eqb·suc-zero
+  each-set (suc n) of (suc p) v = simp (eqb·zero-suc, eqb·suc-suc, each-set n (λ k. of (suc k)) p v)
+
+  -- the next one goes to the next place
+  pub pad-next : (z : A) (n : ℕ) (of : ℕ → A) (i : ℕ) → i < n → set (pad n z (each i of)) i (of i) ≡ pad n z (each (suc i) of)
+  unfolding each
+  pad-next z zero of i h = absurd (omega arith)
+  pad-next z (suc n) of zero h = refl
+  pad-next z (suc n) of (suc i) h = ap (λ (l : List A). of 0 ∷ l) (pad-next z n (λ k. of (suc k)) i (omega arith))
+
+  -- a list of as many is in all places
+  pub pad-all : (z : A) (n : ℕ) (of : ℕ → A) → pad n z (each n of) ≡ each n of
+  unfolding each
+  pad-all z zero of = refl
+  pad-all z (suc n) of = ap (λ (l : List A). of 0 ∷ l) (pad-all z n (λ k. of (suc k)))
+
+-- what stands at a place of a list does not depend on what is read past its end
+pub getD-known : (l : List ℕ) (i a b : ℕ) → i < length l → getD l i a ≡ getD l i b
+getD-known [] i a b h = absurd (omega arith)
+getD-known (x ∷ l) zero a b h = refl
+getD-known (x ∷ l) (suc i) a b h = getD-known l i a b (omega arith)
+
+-- whether some number of a list meets a condition, as a loop over its places finds it: at this place, past it, and at the end
+module _ (p : ℕ → Bool) (l : List ℕ) (i : ℕ) where
+  pub any-here : i < length l → p (getD l i 0) ≡ true → any p (drop i l) ≡ true
+  any-here h met = rw (drop-cons l i 0, met)
+
+  pub any-past : i < length l → p (getD l i 0) ≡ false → any p (drop i l) ≡ any p (drop (i + 1) l)
+  any-past h unmet = rw (add-one, drop-cons l i 0, unmet)
+
+  pub any-none : length l ≤ i → any p (drop i l) ≡ false
+  any-none h = rw (drop-of-length-le l h)
+
+-- the same for the numbers below n
+module _ (p : ℕ → Bool) (n k : ℕ) where
+  pub below-here : k < n → p k ≡ true → any p (drop k (each n (λ i. i))) ≡ true
+  below-here h met = any-here p (each n (λ i. i)) k (rw (each-length n (λ i. i)) h) (rw (each-at 0 n (λ i. i) k) met)
+
+  pub below-past : k < n → p k ≡ false → any p (drop k (each n (λ i. i))) ≡ any p (drop (k + 1) (each n (λ i. i)))
+  below-past h unmet = any-past p (each n (λ i. i)) k (rw (each-length n (λ i. i)) h) (rw (each-at 0 n (λ i. i) k) unmet)
+
+  pub below-none : n ≤ k → any p (drop k (each n (λ i. i))) ≡ false
+  below-none h = any-none p (each n (λ i. i)) k (rw (each-length n (λ i. i)) h)

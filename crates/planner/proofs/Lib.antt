@@ -1,0 +1,4 @@
+pub mod Ancestry
+pub mod Sets
+pub mod Each
+pub mod Rounds

@@ -1,0 +1,127 @@
+-- The set of the domains to which a test says yes holds these and no others, and a number of sixteen bits is the set of the domains that it holds. So two sets
+-- are the same where they hold the same domains, and one set with another's members is the set of either test.
+use Prim.Native.Nat.{ℕ, zero, suc, _+_, _*_, _/_, _%_, _^_, _<_, _≤_}
+use mathlib.Core.Path.{_≡_, refl, sym, ap, _∙_}
+use mathlib.Core.Bool.{Bool, true, false, not, _&&_, _||_, or-false, or-comm}
+use borrow.Author.Tests.{eqb-true, eqb-false, ltb-true, ltb-false, lt-ltb, le-ltb, eq-eqb, ne-eqb}
+use lib.Bits.{bitAnd, bitOr, or-lt, or-shifted-r}
+use lib.Dec.{eqb, ltb}
+use lib.Pow.{pow-lt, pow-pos, mod-pow-add}
+use native.Mathlib.Nat.{mod-lt, mod-one, mod-eq-of-lt}
+use native.Mathlib.Omega.{arith}
+use Rattle.rules.specs.Domains.{domainBit, holds, withBit}
+use Rattle.rules.specs.Refusals.{pick}
+use Rattle.rules.proofs.Laws.{domain-bit, no-domain-held}
+use Rattle.rules.proofs.Bits.{digit}
+use Rattle.rules.proofs.Lowest.{held-digit, held-either, bit-held}
+use Rattle.planner.specs.Plan.{setBelow, setOf}
+
+-- tests that agree below n have the same set
+pub set-same : (n : ℕ) (f g : ℕ → Bool) → ((s : ℕ) → s < n → f s ≡ g s) → setBelow n f ≡ setBelow n g
+unfolding setBelow
+set-same zero f g same = refl
+set-same (suc n) f g same =
+    let rest = set-same n f g (λ s h. same s (omega arith)) in
+    rw (same n (omega arith), rest)
+
+-- domains to which the test says no do not alter it
+pub set-more : (n m : ℕ) (f : ℕ → Bool) → ((s : ℕ) → n ≤ s → f s ≡ false) → setBelow (n + m) f ≡ setBelow n f
+unfolding setBelow
+set-more n zero f none = let e : n + 0 ≡ n = omega arith in rw e
+set-more n (suc m) f none =
+    let e : n + suc m ≡ suc (n + m) = omega arith in
+    rw (e, none (n + m) (omega arith)) (set-more n m f none)
+
+-- a number is below the next one as well, or is it
+below-next : (s n : ℕ) → ltb s (suc n) ≡ ltb s n || eqb s n
+below-next s n = split (ltb s n) refl (eqb s n) refl
+  where
+    split : (less : Bool) → ltb s n ≡ less → (same : Bool) → eqb s n ≡ same → ltb s (suc n) ≡ less || same
+    split true e same f = let h = ltb-true s n e in lt-ltb s (suc n) (omega arith)
+    split false e true f = let h = eqb-true s n f in lt-ltb s (suc n) (omega arith)
+    split false e false f =
+        let h = ltb-false s n e in
+        let other = eqb-false s n f in
+        le-ltb s (suc n) (omega (arith, other))
+
+-- of one more domain, where the test says yes to it, and where not
+one-more : (less here says : Bool) → (here ≡ true → says ≡ true) → less && says || here ≡ (less || here) && says
+one-more true true says h = rw (h refl)
+one-more true false says h = or-false says
+one-more false true says h = sym (h refl)
+one-more false false says h = refl
+
+none-more : (less here says : Bool) → (here ≡ true → says ≡ false) → less && says ≡ (less || here) && says
+none-more true here says h = refl
+none-more false true says h = sym (h refl)
+none-more false false says h = refl
+
+set-held : (n : ℕ) (f : ℕ → Bool) → n ≤ 16 → (s : ℕ) → holds (setBelow n f) s ≡ ltb s n && f s
+unfolding setBelow
+set-held zero f few s = rw (le-ltb s 0 (omega arith))
+set-held (suc n) f few s = go (eqb s n) refl (f n) refl (set-held n f (omega arith) s)
+  where
+    go : (here : Bool) → eqb s n ≡ here → (says : Bool) → f n ≡ says → holds (setBelow n f) s ≡ ltb s n && f s
+        → holds (pick says (withBit (setBelow n f) n) (setBelow n f)) s ≡ ltb s (suc n) && f s
+    go here e true h below =
+        rw (held-either (setBelow n f) (domainBit n) s, bit-held n s (omega arith), below, below-next s n, e)
+        (one-more (ltb s n) here (f s) (λ same. rw (eqb-true s n (e ∙ same)) h))
+    go here e false h below =
+        rw (below, below-next s n, e) (none-more (ltb s n) here (f s) (λ same. rw (eqb-true s n (e ∙ same)) h))
+
+-- the set holds a domain exactly where the test says yes to it
+pub set-holds : (f : ℕ → Bool) (s : ℕ) → s < 16 → holds (setOf f) s ≡ f s
+set-holds f s known = rw (set-held 16 f (omega arith) s, lt-ltb s 16 known)
+
+-- a bit is one of sixteen, and so is each of a set
+bit-fits : (d : ℕ) → d < 16 → domainBit d < 65536
+bit-fits d known = rw (domain-bit d known) (pow-lt known)
+
+set-small : (n : ℕ) (f : ℕ → Bool) → n ≤ 16 → setBelow n f < 65536
+unfolding setBelow
+set-small zero f few = omega arith
+set-small (suc n) f few = go (f n) (set-small n f (omega arith))
+  where
+    go : (says : Bool) → setBelow n f < 65536 → pick says (withBit (setBelow n f) n) (setBelow n f) < 65536
+    go true small = or-lt 16 (setBelow n f) (domainBit n) small (bit-fits n (omega arith))
+    go false small = small
+
+pub set-fits : (f : ℕ → Bool) → setOf f < 65536
+set-fits f = set-small 16 f (omega arith)
+
+-- the digits below k of a number are the set of the domains below k that it holds
+set-back : (n k : ℕ) → k ≤ 16 → setBelow k (holds n) ≡ n % 2 ^ k
+unfolding setBelow
+set-back n zero few = sym (mod-one n)
+set-back n (suc k) few =
+    rw (held-digit n k (omega arith), set-back n k (omega arith)) (go (n / 2 ^ k % 2) (digit (n / 2 ^ k)) ∙ sym next)
+  where
+    next : n % 2 ^ suc k ≡ (n / 2 ^ k % 2) * 2 ^ k + n % 2 ^ k
+    next = let e : suc k ≡ 1 + k = omega arith in rw e (mod-pow-add n 1 k)
+
+    go : (d : ℕ) → d < 2 → pick (not (eqb d 0)) (withBit (n % 2 ^ k) k) (n % 2 ^ k) ≡ d * 2 ^ k + n % 2 ^ k
+    go zero h = omega arith
+    go (suc zero) h =
+        let alone : 1 * 2 ^ k ≡ 2 ^ k = omega arith in
+        rw (domain-bit k (omega arith)) (ap (bitOr (n % 2 ^ k)) (sym alone) ∙ or-shifted-r 1 k (n % 2 ^ k) (mod-lt n (pow-pos k)))
+    go (suc (suc d)) h = absurd (omega arith)
+
+-- two numbers of sixteen bits that hold the same domains are the same
+pub held-alike : (a b : ℕ) → a < 65536 → b < 65536 → ((s : ℕ) → s < 16 → holds a s ≡ holds b s) → a ≡ b
+held-alike a b small small′ same = sym (whole a small) ∙ set-same 16 (holds a) (holds b) same ∙ whole b small′
+  where
+    whole : (n : ℕ) → n < 65536 → setOf (holds n) ≡ n
+    whole n fits = set-back n 16 (omega arith) ∙ mod-eq-of-lt fits
+
+-- a set with another one's members is the set of what either test says yes to
+pub set-join : (f g : ℕ → Bool) → bitOr (setOf f) (setOf g) ≡ setOf (λ s. f s || g s)
+set-join f g =
+    held-alike _ _ (or-lt 16 (setOf f) (setOf g) (set-fits f) (set-fits g)) (set-fits (λ s. f s || g s)) (λ s known.
+    rw (held-either (setOf f) (setOf g) s, set-holds f s known, set-holds g s known, set-holds (λ s. f s || g s) s known))
+
+-- a set with one domain more
+pub set-with : (f : ℕ → Bool) (d : ℕ) → d < 16 → withBit (setOf f) d ≡ setOf (λ s. eqb s d || f s)
+set-with f d known =
+    held-alike _ _ (or-lt 16 (setOf f) (domainBit d) (set-fits f) (bit-fits d known)) (set-fits (λ s. eqb s d || f s)) (λ s there.
+    rw (held-either (setOf f) (domainBit d) s, bit-held d s known, set-holds f s there, set-holds (λ s. eqb s d || f s) s there)
+    (or-comm (f s) (eqb s d)))

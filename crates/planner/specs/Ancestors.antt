@@ -1,0 +1,26 @@
+-- The contexts of a list, their parents and their ancestors (RULES 11.1, 11.2).
+use Prim.Native.Nat.{ℕ}
+use mathlib.Core.Path.{_≡_}
+use mathlib.Core.Bool.{Bool, true, not, _&&_}
+use mathlib.Core.List.{List}
+use mathlib.Core.Logic.{_↔_}
+use lib.Dec.{eqb}
+use lib.ListN.{getD}
+
+-- RULES 11.1: what stands in the list for a context that has no parent
+abbrev pub noParent : ℕ
+noParent = 255
+
+-- RULES 11.1: p is the parent of context k: it stands at k's place in the list. Past the end of the list there is no context, and so no parent.
+abbrev pub isParent : List ℕ → (p k : ℕ) → Bool
+isParent list p k = eqb (getD list k noParent) p && not (eqb p noParent)
+
+-- RULES 11.2: a is an ancestor of context k: its parent, or the parent of an ancestor of k. Then k is a descendant of a.
+pub data Ancestor (list : List ℕ) : (a k : ℕ) → Type 0 where
+  parent : {p k : ℕ} → isParent list p k ≡ true → Ancestor list p k
+  above : {p a k : ℕ} → Ancestor list a k → isParent list p a ≡ true → Ancestor list p k
+
+-- RULES 11.2: a test tells the ancestors of a list where it says yes to a and k exactly if a is an ancestor of k. What a plan is, is said with such a
+-- test, whichever it is: nothing is said of how an ancestor is found.
+abbrev pub Tells : List ℕ → (isAncestor : ℕ → ℕ → Bool) → Type 0
+Tells list isAncestor = (a k : ℕ) → (isAncestor a k ≡ true) ↔ Ancestor list a k

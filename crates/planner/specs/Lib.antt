@@ -1,0 +1,2 @@
+pub mod Ancestors
+pub mod Plan
