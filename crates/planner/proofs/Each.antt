@@ -78,3 +78,9 @@ module _ (p : ℕ → Bool) (n k : ℕ) where
 
   pub below-none : n ≤ k → any p (drop k (each n (λ i. i))) ≡ false
   below-none h = any-none p (each n (λ i. i)) k (rw (each-length n (λ i. i)) h)
+
+-- conditions that agree on each of them
+pub any-each : (p q : ℕ → Bool) (n : ℕ) (of : ℕ → ℕ) → ((k : ℕ) → k < n → p (of k) ≡ q (of k)) → any p (each n of) ≡ any q (each n of)
+unfolding each
+any-each p q zero of same = refl
+any-each p q (suc n) of same = rw (same 0 (omega arith), any-each p q n (λ k. of (suc k)) (λ k h. same (suc k) (omega arith)))

@@ -2,3 +2,4 @@ pub mod Ancestry
 pub mod Sets
 pub mod Each
 pub mod Rounds
+pub mod Numbers

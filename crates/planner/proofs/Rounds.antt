@@ -10,11 +10,13 @@ use lib.ListN.{length, getD, set, List·getD-eq-default}
 use native.Mathlib.Omega.{arith}
 use Rattle.rules.specs.Domains.{holds, withBit}
 use Rattle.rules.specs.Refusals.{pick}
+use Rattle.machine.specs.Calls.{any}
+use Rattle.image.specs.Description.{pad}
 use Rattle.planner.specs.Ancestors.{noParent, isParent, Tells}
-use Rattle.planner.specs.Plan.{each, setBelow, setOf}
+use Rattle.planner.specs.Plan.{each, setBelow, setOf, contextsOf}
 use Rattle.planner.proofs.Ancestry.{reaches, ancestry-told, told-alike}
-use Rattle.planner.proofs.Each.{each-at, each-same, each-set}
-use Rattle.planner.proofs.Sets.{set-same, set-more, set-holds, set-join}
+use Rattle.planner.proofs.Each.{each-at, each-same, each-set, any-each}
+use Rattle.planner.proofs.Sets.{set-same, set-more, set-holds, set-join, set-with}
 
 -- the children of each context among the first n of the list
 abbrev pub childrenBelow : List ℕ → ℕ → List ℕ
@@ -73,3 +75,14 @@ pub last-round : (list : List ℕ) (isAncestor : ℕ → ℕ → Bool) → Tells
 unfolding reachedBelow
 last-round list isAncestor told =
     each-same 16 _ _ (λ k _. set-same 16 _ _ (λ s _. told-alike list (reaches list (length list)) isAncestor (ancestry-told list) told k s))
+
+-- what is asked of these sets, and made of them, is what a plan says
+module _ (isAncestor : ℕ → ℕ → Bool) (count : ℕ) (few : count ≤ 16) where
+  told : (k : ℕ) → k < count → getD (each 16 (λ i. setOf (isAncestor i))) k 0 ≡ setOf (isAncestor k)
+  told k h = each-at 0 16 (λ i. setOf (isAncestor i)) k (omega arith)
+
+  pub own-told : any (λ k. holds (getD (each 16 (λ i. setOf (isAncestor i))) k 0) k) (each count (λ k. k)) ≡ any (λ k. isAncestor k k) (each count (λ k. k))
+  own-told = any-each _ _ count (λ k. k) (λ k h. rw (told k h) (set-holds (isAncestor k) k (omega arith)))
+
+  pub contexts-told : pad 16 0 (each count (λ k. withBit (getD (each 16 (λ i. setOf (isAncestor i))) k 0) k)) ≡ contextsOf isAncestor count
+  contexts-told = ap (pad 16 0) (each-same count _ _ (λ k h. rw (told k h) (set-with (isAncestor k) k (omega arith))))
