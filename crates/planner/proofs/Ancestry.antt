@@ -34,7 +34,7 @@ has-place list p k h = split (ltb k (length list)) refl
     split false e =
         absurd (stands .1 (sym (stands .0) ∙ List·getD-eq-default list noParent (ltb-false k (length list) e)))
 
-either : (a b : Bool) → a || b ≡ true → (a ≡ true) ⊎ (b ≡ true)
+pub either : (a b : Bool) → a || b ≡ true → (a ≡ true) ⊎ (b ≡ true)
 either true b h = inl refl
 either false b h = inr h
 

@@ -1,0 +1,38 @@
+-- What follows from a context's having one parent at most: ancestors of ancestors are ancestors, and of two ancestors of one context, one is the other's, or they
+-- are the same. By induction on the way up.
+use Prim.Native.Nat.{ℕ}
+use mathlib.Core.Path.{_≡_, refl, sym, _∙_}
+use mathlib.Core.Bool.{true}
+use mathlib.Core.List.{List}
+use mathlib.Core.Logic.{_⊎_, inl, inr, ⊎-map}
+use lib.ListN.{length}
+use Rattle.planner.specs.Ancestors.{isParent, Ancestor, parent, above}
+use Rattle.planner.proofs.Ancestry.{parent-stands}
+
+module _ (list : List ℕ) where
+  one-parent : (p q k : ℕ) → isParent list p k ≡ true → isParent list q k ≡ true → p ≡ q
+  one-parent p q k h h′ = sym (parent-stands list p k h .0) ∙ parent-stands list q k h′ .0
+
+  -- RULES 11.2: an ancestor of an ancestor is an ancestor
+  pub ancestor-over : {a b k : ℕ} → Ancestor list a b → Ancestor list b k → Ancestor list a k
+  ancestor-over (parent h) low = above low h
+  ancestor-over (above mid h) low = above (ancestor-over mid low) h
+
+  -- a way up goes through the parent
+  from-parent : {a k : ℕ} (p : ℕ) → isParent list p k ≡ true → Ancestor list a k → (p ≡ a) ⊎ Ancestor list a p
+  from-parent {a} {k} p h (parent h′) = inl (one-parent p a k h h′)
+  from-parent p h (above {p = q} {a = b} low h′) = go (from-parent p h low)
+    where
+      go : (p ≡ b) ⊎ Ancestor list b p → (p ≡ q) ⊎ Ancestor list q p
+      go (inl same) = inr (rw same (parent h′))
+      go (inr way) = inr (above way h′)
+
+  -- two ancestors of one context stand on one way up
+  pub on-one-way : {a b k : ℕ} → Ancestor list a k → Ancestor list b k → (a ≡ b) ⊎ (Ancestor list a b ⊎ Ancestor list b a)
+  on-one-way (parent {p} h) way = ⊎-map (λ e. e) inr (from-parent p h way)
+  on-one-way (above {p} {a} low h) way = go (on-one-way low way)
+    where
+      go : {b : ℕ} → (a ≡ b) ⊎ (Ancestor list a b ⊎ Ancestor list b a) → (p ≡ b) ⊎ (Ancestor list p b ⊎ Ancestor list b p)
+      go (inl same) = inr (inl (rw (← same) (parent h)))
+      go (inr (inl under)) = inr (inl (above under h))
+      go (inr (inr over)) = ⊎-map (λ e. e) inr (from-parent p h over)
