@@ -6,3 +6,4 @@ pub mod Numbers
 pub mod Forests
 pub mod Found
 pub mod Plans
+pub mod Rings

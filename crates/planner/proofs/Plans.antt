@@ -8,7 +8,7 @@ use mathlib.Core.Logic.{_↔_, _⊎_, inl, inr, ⊎-elim, ⊎-map}
 use borrow.Author.Tests.{eqb-true, eqb-false, eq-eqb, ne-eqb, leb-true, leb-false, le-leb, lt-leb, ltb-true, ltb-false}
 use lib.Bits.{bitAnd, and-le-l}
 use lib.Dec.{eqb, leb, ltb}
-use lib.ListN.{length, getD, replicate}
+use lib.ListN.{length, getD, replicate, List·getD-eq-default}
 use native.Mathlib.Omega.{arith}
 use Rattle.rules.specs.Domains.{holds}
 use Rattle.rules.proofs.Decided.{and-both}
@@ -105,7 +105,7 @@ module _ (list : List ℕ) (isAncestor : ℕ → ℕ → Bool) (told : Tells lis
       let missing = missing-exactly list .0 found in
       omega (arith, listed .there (missing .0) (missing .1) (missing .2), missing .3))
 
-  planned-free : Listed list → ((k : ℕ) → Ancestor list k k → ⊥) → plan ≡ record { number = 0; contexts = contextsOf isAncestor (length list) }
+  pub planned-free : Listed list → ((k : ℕ) → Ancestor list k k → ⊥) → plan ≡ record { number = 0; contexts = contextsOf isAncestor (length list) }
   planned-free listed free =
       planned-all list isAncestor (counted (length list) (listed .some) (listed .few)) (none-missing listed)
       (not-found _ (λ found. let at = cycle-found list isAncestor told .0 found in free (at .0) (at .1)))
@@ -225,11 +225,10 @@ module _ (list : List ℕ) (isAncestor : ℕ → ℕ → Bool) (told : Tells lis
 
   -- RULES 11.6: an image whose programs have their global contexts from a plan is legal, as far as its counts, fields and masks are
   pub planned-legal : (d : Description) → Shaped d → ((i : ℕ) → getD (d .fields) i 0 < 65536) → ((i : ℕ) → getD (d .programs) i noProgram .mask < 65536)
-      → ((i : ℕ) → (k : ℕ) × (getD (d .programs) i noProgram .context ≡ getD (plan .contexts) k 0)) → Legal d
+      → ((i : ℕ) → i < length (d .programs) → (k : ℕ) × (getD (d .programs) i noProgram .context ≡ getD (plan .contexts) k 0)) → Legal d
   planned-legal d shaped fields masks planned =
-      record {
-        counts = shaped;
-        fields-fit = fields;
-        contexts-fit = λ i. rw (planned i .1) (places-fit .1 (planned i .0));
-        masks-fit = masks;
-      }
+      record { counts = shaped; fields-fit = fields; contexts-fit = λ i. fits i (ltb i (length (d .programs))) refl; masks-fit = masks }
+    where
+      fits : (i : ℕ) (b : Bool) → ltb i (length (d .programs)) ≡ b → getD (d .programs) i noProgram .context < 65536
+      fits i true e = let from = planned i (ltb-true i (length (d .programs)) e) in rw (from .1) (places-fit .1 (from .0))
+      fits i false e = rw (List·getD-eq-default (d .programs) noProgram (ltb-false i (length (d .programs)) e)) (omega arith)

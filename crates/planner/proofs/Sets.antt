@@ -33,7 +33,7 @@ set-more n (suc m) f none =
     rw (e, none (n + m) (omega arith)) (set-more n m f none)
 
 -- a number is below the next one as well, or is it
-below-next : (s n : ℕ) → ltb s (suc n) ≡ ltb s n || eqb s n
+pub below-next : (s n : ℕ) → ltb s (suc n) ≡ ltb s n || eqb s n
 below-next s n = split (ltb s n) refl (eqb s n) refl
   where
     split : (less : Bool) → ltb s n ≡ less → (same : Bool) → eqb s n ≡ same → ltb s (suc n) ≡ less || same
