@@ -7,3 +7,4 @@ pub mod Forests
 pub mod Found
 pub mod Plans
 pub mod Rings
+pub mod Pinned

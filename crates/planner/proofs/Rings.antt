@@ -1,9 +1,9 @@
 -- The plan of a ring. In a ring the ancestors of a context are the contexts of greater number, by induction on the way up; so context i gets the bits 0 to i.
 use Prim.Native.Nat.{ℕ, zero, suc, _+_, _-_, _^_, _<_, _≤_}
-use mathlib.Core.Path.{_≡_, refl, sym, ap, _∙_}
+use mathlib.Core.Path.{_≡_, refl, sym, ap, subst, _∙_}
 use mathlib.Core.Bool.{Bool, true, false, _&&_, _||_, and-true, or-comm}
 use mathlib.Core.List.{List, [], _∷_}
-use mathlib.Core.Logic.{_↔_}
+use mathlib.Core.Logic.{_↔_, _⊎_, inl, inr, ⊎-elim}
 use borrow.Author.Tests.{eqb-true, eqb-false, eq-eqb, ne-eqb, ltb-true, ltb-false, lt-ltb, le-ltb}
 use lib.Dec.{eqb, ltb}
 use lib.ListN.{length, getD}
@@ -17,40 +17,63 @@ use Rattle.planner.specs.Ancestors.{noParent, isParent, Ancestor, parent
 use Rattle.planner.specs.Plan.{each, setBelow, setOf, globalContext, plannedOf}
 use Rattle.planner.proofs.Ancestry.{parent-stands, has-place, told-alike}
 use Rattle.planner.proofs.Each.{each-at, each-length, each-same}
-use Rattle.planner.proofs.Plans.{Listed, planned-free}
+use Rattle.planner.proofs.Plans.{Listed, own-ancestor, planned-free, plan-number-exactly}
 use Rattle.planner.proofs.Sets.{set-same, below-next}
 
--- RULES 11.5: a ring of n contexts: each but the last has the next one as its parent, the last has none
-abbrev pub ring : ℕ → List ℕ
-ring n = each n (λ k. pick (eqb (1 + k) n) noParent (1 + k))
+-- contexts of which each has the next one as its parent, and the last has a parent that is given
+abbrev row : (last n : ℕ) → List ℕ
+row last n = each n (λ k. pick (eqb (1 + k) n) last (1 + k))
 
-module _ (n : ℕ) (few : n ≤ 16) where
-  -- the parent of a context of the ring is the next one
-  ring-parent : (p k : ℕ) → isParent (ring n) p k ≡ true → (p ≡ suc k) × (p < n)
-  ring-parent p k h = split (eqb (1 + k) n) refl
+module _ (last n : ℕ) where
+  row-length : length (row last n) ≡ n
+  row-length = each-length n (λ k. pick (eqb (1 + k) n) last (1 + k))
+
+  row-at : (k : ℕ) → k < n → getD (row last n) k noParent ≡ pick (eqb (1 + k) n) last (1 + k)
+  row-at = each-at noParent n (λ k. pick (eqb (1 + k) n) last (1 + k))
+
+  -- a parent is the one that is given, or the next context
+  row-parent : (p k : ℕ) → isParent (row last n) p k ≡ true → (p ≡ last) ⊎ ((p ≡ suc k) × (p < n))
+  row-parent p k h = split (eqb (1 + k) n) refl
     where
       below : k < n
-      below = rw (each-length n (λ i. pick (eqb (1 + i) n) noParent (1 + i))) at (has-place (ring n) p k h)
+      below = rw row-length at (has-place (row last n) p k h)
 
-      stands : (getD (ring n) k noParent ≡ p) × (p ≡ noParent → ⊥)
-      stands = parent-stands (ring n) p k h
+      here : pick (eqb (1 + k) n) last (1 + k) ≡ p
+      here = sym (row-at k below) ∙ parent-stands (row last n) p k h .0
 
-      here : pick (eqb (1 + k) n) noParent (1 + k) ≡ p
-      here = sym (each-at noParent n (λ i. pick (eqb (1 + i) n) noParent (1 + i)) k below) ∙ stands .0
-
-      split : (b : Bool) → eqb (1 + k) n ≡ b → (p ≡ suc k) × (p < n)
-      split true e = absurd (stands .1 (sym (rw e at here)))
+      split : (b : Bool) → eqb (1 + k) n ≡ b → (p ≡ last) ⊎ ((p ≡ suc k) × (p < n))
+      split true e = inl (sym (rw e at here))
       split false e =
           let other = eqb-false (1 + k) n e in
           let up : 1 + k ≡ p = rw e at here in
-          (omega arith, omega (arith, other, below))
+          inr (omega arith, omega (arith, other, below))
 
-  parent-next : (k : ℕ) → suc k < n → isParent (ring n) (suc k) k ≡ true
-  parent-next k below =
-      let up : getD (ring n) k noParent ≡ suc k =
-        each-at noParent n (λ i. pick (eqb (1 + i) n) noParent (1 + i)) k (omega arith) ∙ rw (ne-eqb (1 + k) n (omega arith)) (omega arith) in
-      rw (up, eq-eqb (suc k) (suc k) refl, ne-eqb (suc k) noParent (omega arith))
+  module _ (few : n ≤ 16) where
+    next-parent : (k : ℕ) → suc k < n → isParent (row last n) (suc k) k ≡ true
+    next-parent k below =
+        let up : pick (eqb (1 + k) n) last (1 + k) ≡ suc k = rw (ne-eqb (1 + k) n (omega arith)) (omega arith) in
+        rw (row-at k (omega arith), up, eq-eqb (suc k) (suc k) refl, ne-eqb (suc k) noParent (omega arith))
 
+    -- every context of greater number is an ancestor
+    row-above : (a k : ℕ) → k < a → a < n → Ancestor (row last n) a k
+    row-above zero k low below = absurd (omega arith)
+    row-above (suc b) k low below = split (eqb b k) refl (λ (h : k < b). row-above b k h (omega arith))
+      where
+        split : (s : Bool) → eqb b k ≡ s → (k < b → Ancestor (row last n) b k) → Ancestor (row last n) (suc b) k
+        split true e rest = rw (eqb-true b k e) (parent (next-parent k (omega (arith, eqb-true b k e))))
+        split false e rest =
+            let other = eqb-false b k e in
+            above (rest (omega (arith, other))) (next-parent b below)
+
+-- RULES 11.5: a ring of n contexts: each but the last has the next one as its parent, the last has none
+abbrev pub ring : ℕ → List ℕ
+ring n = row noParent n
+
+module _ (n : ℕ) (few : n ≤ 16) where
+  ring-parent : (p k : ℕ) → isParent (ring n) p k ≡ true → (p ≡ suc k) × (p < n)
+  ring-parent p k h = ⊎-elim (λ none. absurd (parent-stands (ring n) p k h .1 none)) (λ up. up) (row-parent noParent n p k h)
+
+  -- so no other context is an ancestor
   ring-above : {a k : ℕ} → Ancestor (ring n) a k → (k < a) × (a < n)
   ring-above (parent {p} {k} h) = let up = ring-parent p k h in (omega (arith, up .0), up .1)
   ring-above (above {p} {a} low h) =
@@ -58,22 +81,12 @@ module _ (n : ℕ) (few : n ≤ 16) where
       let rest = ring-above low in
       (omega (arith, up .0, rest .0), up .1)
 
-  above-ring : (a k : ℕ) → k < a → a < n → Ancestor (ring n) a k
-  above-ring zero k low below = absurd (omega arith)
-  above-ring (suc b) k low below = split (eqb b k) refl (λ (h : k < b). above-ring b k h (omega arith))
-    where
-      split : (s : Bool) → eqb b k ≡ s → (k < b → Ancestor (ring n) b k) → Ancestor (ring n) (suc b) k
-      split true e rest = rw (eqb-true b k e) (parent (parent-next k (omega (arith, eqb-true b k e))))
-      split false e rest =
-          let other = eqb-false b k e in
-          above (rest (omega (arith, other))) (parent-next b below)
-
   -- so this test tells the ancestors of the ring
   ring-told : Tells (ring n) (λ a k. ltb k a && ltb a n)
   ring-told a k = (there, back)
     where
       there : ltb k a && ltb a n ≡ true → Ancestor (ring n) a k
-      there h = let both = and-both (ltb k a) (ltb a n) h in above-ring a k (ltb-true k a (both .0)) (ltb-true a n (both .1))
+      there h = let both = and-both (ltb k a) (ltb a n) h in row-above noParent n few a k (ltb-true k a (both .0)) (ltb-true a n (both .1))
 
       back : Ancestor (ring n) a k → ltb k a && ltb a n ≡ true
       back way = let both = ring-above way in rw (lt-ltb k a (both .0), lt-ltb a n (both .1))
@@ -91,7 +104,7 @@ ring-planned n some few isAncestor told =
     ∙ rw size (ap (λ (l : List ℕ). record { number = 0; contexts = pad 16 0 l }) (each-same n (globalContext isAncestor) (λ i. 2 ^ (1 + i) - 1) bits))
   where
     size : length (ring n) ≡ n
-    size = each-length n (λ i. pick (eqb (1 + i) n) noParent (1 + i))
+    size = row-length noParent n
 
     listed : Listed (ring n)
     listed = record { some = rw size some; few = rw size few; there = λ p k h. rw size (ring-parent n few p k h .1) }
@@ -104,3 +117,26 @@ ring-planned n some few isAncestor told =
         rw (told-alike (ring n) isAncestor (λ a k. ltb k a && ltb a n) told (ring-told n few) i j, lt-ltb i n below, and-true (ltb j i), below-next j i)
         (or-comm (eqb j i) (ltb j i)))
         ∙ first-domains (suc i) (omega arith))
+
+-- RULES 11.4: a cycle of any count from 1 to 16 is refused: a ring whose last context has the first one as its parent
+pub round-refused : (n : ℕ) → 1 ≤ n → n ≤ 16 → (isAncestor : ℕ → ℕ → Bool) → Tells (row 0 n) isAncestor → plannedOf (row 0 n) isAncestor .number ≡ 32
+round-refused zero some few isAncestor told = absurd (omega arith)
+round-refused (suc m) some few isAncestor told =
+    plan-number-exactly (row 0 (suc m)) isAncestor told 32 .1 (own-ancestor listed (own (eqb m 0) refl))
+  where
+    first-parent : isParent (row 0 (suc m)) 0 m ≡ true
+    first-parent = rw (row-at 0 (suc m) m (omega arith), eq-eqb (1 + m) (suc m) (omega arith))
+
+    own : (b : Bool) → eqb m 0 ≡ b → Ancestor (row 0 (suc m)) 0 0
+    own true e = parent (subst (λ (x : ℕ). isParent (row 0 (suc m)) 0 x ≡ true) (eqb-true m 0 e) first-parent)
+    own false e =
+        let more = eqb-false m 0 e in
+        above (row-above 0 (suc m) few m 0 (omega (arith, more)) (omega arith)) first-parent
+
+    listed : Listed (row 0 (suc m))
+    listed =
+        record {
+          some = rw (row-length 0 (suc m)) some;
+          few = rw (row-length 0 (suc m)) few;
+          there = λ p k h. rw (row-length 0 (suc m)) (⊎-elim (λ zero. omega arith) (λ up. up .1) (row-parent 0 (suc m) p k h));
+        }
