@@ -65,7 +65,7 @@ module _ (last n : ℕ) where
             let other = eqb-false b k e in
             above (rest (omega (arith, other))) (next-parent b below)
 
--- RULES 11.5: a ring of n contexts: each but the last has the next one as its parent, the last has none
+-- RULES 11.5: a ring of n contexts: the next one is the parent, and the last one has none
 abbrev pub ring : ℕ → List ℕ
 ring n = row noParent n
 

@@ -1,4 +1,4 @@
-// The planner of contexts, for site configurators (RULES, section 11): from a list of contexts, each with a parent or none, to the global context of each.
+// The planner of contexts, for site configurators (RULES, section 11): from the parents of contexts to their global contexts.
 mod descendants;
 
 use descendants::descendant_sets;

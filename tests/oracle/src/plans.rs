@@ -84,7 +84,7 @@ fn alone_but(count: usize, others: &[(usize, u8)]) -> Vec<u8> {
     with(&vec![NO; count], others)
 }
 
-/// Each context has the next as its parent, and the last the given one.
+/// The parent of a context is the one after it; that of the last one is given.
 fn upward(count: u8, last: u8) -> Vec<u8> {
     (1..count).chain([last]).collect()
 }
