@@ -130,7 +130,7 @@ pub fn lists(mut file: &[u8]) -> Vec<&[u8]> {
 
 /// The line of a plan with so many before it.
 fn line(before: usize, planned: Planned) -> String {
-    let contexts: String = planned.contexts.iter().map(|context| format!(" {context:04X}")).collect();
+    let contexts: String = planned.contexts.iter().map(|context| format!(" {context:04x}")).collect();
     format!("{} {}{contexts}\n", before + 1, planned.number)
 }
 
