@@ -15,6 +15,9 @@ Inv-loop parents i₀ i = any (isMissing (length parents)) parents ≡ any (isMi
 abbrev μ-loop : tie.MeasureT-loop
 μ-loop parents i₀ i = length parents - i
 
+loop-holds : tie.Need-loop-holds Inv-loop μ-loop
+loop-holds c = refl
+
 returns : tie.Need-returns Inv-loop μ-loop
 returns c =
     let start : tie.Start Inv-loop μ-loop = (search) in
@@ -42,5 +45,5 @@ returns-2 c =
 pub any-missing-spec : {M : Type 1} → statement M
 any-missing-spec =
     tie.close
-    (tie.spec Inv-loop μ-loop (λ c. refl) (λ c. search needs) (λ c κs. search needs) returns (λ c. search needs) (λ c. search needs) loop-again
+    (tie.spec Inv-loop μ-loop loop-holds (λ c. search needs) (λ c κs. search needs) returns (λ c. search needs) (λ c. search needs) loop-again
     returns-2)

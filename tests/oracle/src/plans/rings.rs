@@ -1,5 +1,5 @@
-//! Rings (RULES 11.5): the parent of a context is the one after it, and the last has none. And the same with the
-//! numbers the other way round, which is a chain too, but no ring.
+//! Rings (RULES 11.5): the parent of a context is the one after it, and the last has none. And the
+//! same with the numbers the other way round, which is a chain too, but no ring.
 
 use super::{downward, upward, Plans, NO};
 use crate::planner::PLACES;
