@@ -1,2 +1,3 @@
 pub mod Ancestors
 pub mod Plan
+pub mod Ways

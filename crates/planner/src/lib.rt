@@ -1,20 +1,13 @@
 // The planner of contexts, for site configurators (RULES, section 11): from the parents of contexts to their global contexts.
-mod descendants;
-
-use descendants::descendant_sets;
-use rules::domains::holds_domain;
 use rules::domains::with_bit;
 ghost use mathlib.Core.Path.{_≡_};
-ghost use mathlib.Core.Bool.{Bool};
-ghost use mathlib.Core.List.{[], _∷_};
+ghost use mathlib.Core.Bool.{Bool, true, false};
 ghost use Prim.Native.Nat.{ℕ, _≤_};
-ghost use lib.ListN.{length, getD, replicate};
-ghost use Rattle.rules.specs.Domains.{holds, withBit};
-ghost use Rattle.rules.specs.Refusals.{_⇒_, first, pick};
+ghost use lib.ListN.{length, replicate};
 ghost use Rattle.machine.specs.Calls.{any};
-ghost use Rattle.image.specs.Description.{pad};
 ghost use Rattle.planner.specs.Ancestors.{Tells};
-ghost use Rattle.planner.specs.Plan.{each, isCount, isMissing, plannedOf};
+ghost use Rattle.planner.specs.Plan.{isCount, isMissing, plannedOf};
+ghost use Rattle.planner.specs.Ways.{ends, marked};
 
 // What stands in a list for a context that has no parent (RULES 11.1).
 pub const NO_PARENT: u8 = 255;
@@ -53,35 +46,6 @@ fn any_missing(parents: &[u8]) -> bool
     false
 }
 
-// Some context is among its own descendants.
-fn any_own(sets: [u16; 16], count: usize) -> bool
-    requires { ⌜ count ≤ 16 ⌝ }
-    ensures { λ r. ⌜ r ≡ any (λ k. holds (getD sets k 0) k) (each count (λ k. k)) ⌝ }
-{
-    let mut k: usize = 0;
-    while k < count {
-        if holds_domain(sets[k], k as u16) {
-            return true;
-        }
-        k += 1;
-    }
-    false
-}
-
-// Each context's own domain beside its descendants', in the places below the count.
-fn contexts_of(sets: [u16; 16], count: usize) -> [u16; 16]
-    requires { ⌜ count ≤ 16 ⌝ }
-    ensures { λ r. ⌜ r ≡ pad 16 0 (each count (λ k. withBit (getD sets k 0) k)) ⌝ }
-{
-    let mut contexts = [0u16; 16];
-    let mut k: usize = 0;
-    while k < count {
-        contexts[k] = with_bit(sets[k], k as u16);
-        k += 1;
-    }
-    contexts
-}
-
 // A plan that is refused.
 fn refused(number: u8) -> Planned
     ensures { λ r. ⌜ r ≡ record { number = number; contexts = replicate 16 0 } ⌝ }
@@ -92,24 +56,56 @@ fn refused(number: u8) -> Planned
     }
 }
 
+// Goes up from a context, parent by parent, and puts the context's domain at the place of each one that it comes to, its own first. Answers whether the way
+// ends within as many contexts as there are: one that does not leads round in a cycle.
+fn mark_way(parents: &[u8], contexts: &mut [u16], context: u16) -> bool
+    requires { ⌜ length (now parents) ≤ length (now contexts) ⌝ }
+    ensures { λ r. ⌜ r ≡ ends (now (parents .entry)) (length (now (parents .entry))) context ⌝ }
+    ensures { λ _. ⌜ now (contexts .exit) ≡ marked (now (parents .entry)) (length (now (parents .entry))) context context (now (contexts .entry)) ⌝ }
+{
+    let mut left = parents.len();
+    let mut at = context as usize;
+    while at < parents.len() {
+        if left == 0 {
+            return false;
+        }
+        contexts[at] = with_bit(contexts[at], context);
+        at = parents[at] as usize;
+        left -= 1;
+    }
+    true
+}
+
+// The plan of a list that neither 30 nor 31 refuses.
+fn plan_ways(parents: &[u8]) -> Planned
+    requires { ⌜ isCount (length (now parents)) ≡ true ⌝ }
+    requires { ⌜ any (isMissing (length (now parents))) (now parents) ≡ false ⌝ }
+    ensures { λ r. ⌜ ((isAncestor : ℕ → ℕ → Bool) → Tells (now (parents .entry)) isAncestor → r ≡ plannedOf (now (parents .entry)) isAncestor) ⌝ }
+{
+    let mut contexts = [0u16; 16];
+    let mut context: u16 = 0;
+    while (context as usize) < parents.len() {
+        if !mark_way(parents, &mut contexts, context) {
+            return refused(32);
+        }
+        context += 1;
+    }
+    Planned {
+        number: 0,
+        contexts,
+    }
+}
+
 // The plan of a list of contexts, a byte each: the number of its parent, or NO_PARENT. Whatever test tells the ancestors of the list, the plan is the one
 // that is said with it; there is one for every list (`ancestry-told`, proofs/Ancestry.antt).
 pub fn plan(parents: &[u8]) -> Planned
     ensures { λ r. ⌜ ((isAncestor : ℕ → ℕ → Bool) → Tells (now (parents .entry)) isAncestor → r ≡ plannedOf (now (parents .entry)) isAncestor) ⌝ }
 {
-    let count = parents.len();
-    if !count_holds(count) {
+    if !count_holds(parents.len()) {
         return refused(30);
     }
     if any_missing(parents) {
         return refused(31);
     }
-    let sets = descendant_sets(parents);
-    if any_own(sets, count) {
-        return refused(32);
-    }
-    Planned {
-        number: 0,
-        contexts: contexts_of(sets, count),
-    }
+    plan_ways(parents)
 }
