@@ -39,7 +39,7 @@ either true b h = inl refl
 either false b h = inr h
 
 -- two tests of which each says yes where the other does are the same
-alike : (a b : Bool) → (a ≡ true → b ≡ true) → (b ≡ true → a ≡ true) → a ≡ b
+pub alike : (a b : Bool) → (a ≡ true → b ≡ true) → (b ≡ true → a ≡ true) → a ≡ b
 alike true b there back = sym (there refl)
 alike false true there back = back refl
 alike false false there back = refl

@@ -3,15 +3,16 @@ use Prim.Native.Nat.{ℕ, zero, suc, _+_, _-_, _<_, _≤_}
 use mathlib.Core.Path.{_≡_, refl, sym, ap, _∙_}
 use mathlib.Core.Bool.{Bool, true, false}
 use mathlib.Core.List.{List, [], _∷_}
-use borrow.Author.Tests.{eqb-true, eqb-false}
-use lib.Dec.{eqb, eqb·zero-suc, eqb·suc-zero, eqb·suc-suc}
-use lib.ListN.{length, getD, set, drop, drop-of-length-le}
-use lib.Seq.{drop-cons}
+use borrow.Author.Tests.{ltb-true, ltb-false}
+use lib.Dec.{eqb, ltb, eqb·zero-suc, eqb·suc-zero, eqb·suc-suc}
+use lib.ListN.{length, getD, set, drop, drop-of-length-le, List·getD-eq-default}
+use lib.Seq.{drop-cons, ext-getD}
 use native.Mathlib.Numerals.{add-one}
 use native.Mathlib.Omega.{arith}
 use Rattle.rules.specs.Refusals.{pick}
 use Rattle.machine.specs.Calls.{any}
 use Rattle.image.specs.Description.{pad}
+use Rattle.image.proofs.Entries.{length-pad, pad-at}
 use Rattle.planner.specs.Plan.{each}
 
 module _ {A : Type 0} where
@@ -38,18 +39,18 @@ module _ {A : Type 0} where
   each-set (suc n) of zero v = simp eqb·suc-zero
   each-set (suc n) of (suc p) v = simp (eqb·zero-suc, eqb·suc-suc, each-set n (λ k. of (suc k)) p v)
 
-  -- the next one goes to the next place
-  pub pad-next : (z : A) (n : ℕ) (of : ℕ → A) (i : ℕ) → i < n → set (pad n z (each i of)) i (of i) ≡ pad n z (each (suc i) of)
-  unfolding each
-  pad-next z zero of i h = absurd (omega arith)
-  pad-next z (suc n) of zero h = refl
-  pad-next z (suc n) of (suc i) h = ap (λ (l : List A). of 0 ∷ l) (pad-next z n (λ k. of (suc k)) i (omega arith))
+  -- the same in n places, with z past the last
+  pub pad-each : (z : A) (n m : ℕ) (of : ℕ → A) → pad n z (each m of) ≡ each n (λ k. pick (ltb k m) (of k) z)
+  pad-each z n m of = ext-getD z _ _ size (λ k below. at k (rw (length-pad z n (each m of)) at below) (ltb k m) refl)
+    where
+      size : length (pad n z (each m of)) ≡ length (each n (λ k. pick (ltb k m) (of k) z))
+      size = length-pad z n (each m of) ∙ sym (each-length n (λ k. pick (ltb k m) (of k) z))
 
-  -- a list of as many is in all places
-  pub pad-all : (z : A) (n : ℕ) (of : ℕ → A) → pad n z (each n of) ≡ each n of
-  unfolding each
-  pad-all z zero of = refl
-  pad-all z (suc n) of = ap (λ (l : List A). of 0 ∷ l) (pad-all z n (λ k. of (suc k)))
+      at : (k : ℕ) → k < n → (b : Bool) → ltb k m ≡ b → getD (pad n z (each m of)) k z ≡ getD (each n (λ k. pick (ltb k m) (of k) z)) k z
+      at k below true e = rw (pad-at z n (each m of) k below, each-at z n (λ k. pick (ltb k m) (of k) z) k below, e) (each-at z m of k (ltb-true k m e))
+      at k below false e =
+          rw (pad-at z n (each m of) k below, each-at z n (λ k. pick (ltb k m) (of k) z) k below, e)
+          (List·getD-eq-default (each m of) z (rw (each-length m of) (ltb-false k m e)))
 
 -- what stands at a place of a list does not depend on what is read past its end
 pub getD-known : (l : List ℕ) (i a b : ℕ) → i < length l → getD l i a ≡ getD l i b

@@ -18,8 +18,18 @@ module _ (list : List ℕ) where
   ancestor-over (parent h) low = above low h
   ancestor-over (above mid h) low = above (ancestor-over mid low) h
 
+  -- an ancestor is somebody's parent
+  pub someones-parent : {a k : ℕ} → Ancestor list a k → (b : ℕ) × (isParent list a b ≡ true)
+  someones-parent (parent {p} {k} h) = (k, h)
+  someones-parent (above {p} {a} low h) = (a, h)
+
+  -- what has an ancestor has a parent
+  pub first-parent : {a k : ℕ} → Ancestor list a k → (p : ℕ) × (isParent list p k ≡ true)
+  first-parent (parent {p} h) = (p, h)
+  first-parent (above low h) = first-parent low
+
   -- a way up goes through the parent
-  from-parent : {a k : ℕ} (p : ℕ) → isParent list p k ≡ true → Ancestor list a k → (p ≡ a) ⊎ Ancestor list a p
+  pub from-parent : {a k : ℕ} (p : ℕ) → isParent list p k ≡ true → Ancestor list a k → (p ≡ a) ⊎ Ancestor list a p
   from-parent {a} {k} p h (parent h′) = inl (one-parent p a k h h′)
   from-parent p h (above {p = q} {a = b} low h′) = go (from-parent p h low)
     where

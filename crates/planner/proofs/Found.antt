@@ -5,16 +5,17 @@ use mathlib.Core.Path.{_≡_, refl, sym, _∙_}
 use mathlib.Core.Bool.{Bool, true, false, not, _&&_, _||_, or-true, true≢false}
 use mathlib.Core.List.{List, [], _∷_}
 use mathlib.Core.Logic.{_↔_, _⊎_, inl, inr}
-use borrow.Author.Tests.{eq-eqb, ne-eqb, eqb-false, leb-true, le-leb, not-true}
-use lib.Dec.{eqb, leb}
+use borrow.Author.Tests.{eq-eqb, ne-eqb, eqb-false, leb-true, le-leb, ltb-true, ltb-false}
+use lib.Dec.{eqb, leb, ltb}
 use lib.ListN.{length, getD}
 use native.Mathlib.Omega.{arith}
 use Rattle.rules.proofs.Decided.{and-both}
 use Rattle.machine.specs.Calls.{any}
 use Rattle.planner.specs.Ancestors.{noParent, isParent, Ancestor, parent, above, Tells}
-use Rattle.planner.specs.Plan.{each, isMissing}
+use Rattle.planner.specs.Plan.{each, isCount, isMissing}
 use Rattle.planner.proofs.Ancestry.{parent-stands, has-place}
 use Rattle.planner.proofs.Each.{each-at, each-length}
+use Rattle.planner.proofs.Numbers.{few-counted}
 
 module _ (p : ℕ → Bool) (d : ℕ) where
   any-met : (l : List ℕ) (i : ℕ) → i < length l → p (getD l i d) ≡ true → any p l ≡ true
@@ -48,6 +49,29 @@ missing-exactly list = (there, back)
         let stands = parent-stands list p k h in
         any-met (isMissing (length list)) noParent list k (has-place list p k h)
         (rw (stands .0, ne-eqb p noParent (stands .1), le-leb (length list) p past))
+
+-- RULES 11.4: as many contexts as have a plan, and every parent among them
+pub record Listed (list : List ℕ) : Type 0 where
+  pub some : 1 ≤ length list
+  pub few : length list ≤ 16
+  pub there : (p k : ℕ) → isParent list p k ≡ true → p < length list
+
+-- a test that says no where nothing is found
+pub not-found : (b : Bool) → (b ≡ true → ⊥) → b ≡ false
+not-found true none = absurd (none refl)
+not-found false none = refl
+
+pub never : {b : Bool} → b ≡ false → b ≡ true → ⊥
+never not-so so = true≢false (sym so ∙ not-so)
+
+pub listed-by : (list : List ℕ) → isCount (length list) ≡ true → any (isMissing (length list)) list ≡ false → Listed list
+listed-by list count none =
+    let range = few-counted (length list) count in
+    record { some = range .0; few = range .1; there = λ p k h. split p k h (ltb p (length list)) refl }
+  where
+    split : (p k : ℕ) → isParent list p k ≡ true → (b : Bool) → ltb p (length list) ≡ b → p < length list
+    split p k h true e = ltb-true p (length list) e
+    split p k h false e = absurd (never none (missing-exactly list .1 (p, k, h, ltb-false p (length list) e)))
 
 -- RULES 11.4: a context that is its own ancestor. Whatever has an ancestor is a context of the list.
 pub own-place : (list : List ℕ) {a k : ℕ} → Ancestor list a k → k < length list

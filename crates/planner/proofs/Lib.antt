@@ -8,3 +8,5 @@ pub mod Plans
 pub mod Rings
 pub mod Pinned
 pub mod Ways
+pub mod Pigeonhole
+pub mod Marks

@@ -24,15 +24,9 @@ use Rattle.planner.specs.declared.Planned.{Planned}
 use Rattle.planner.proofs.Ancestry.{has-place, either}
 use Rattle.planner.proofs.Each.{each-at, each-length}
 use Rattle.planner.proofs.Forests.{ancestor-over, on-one-way}
-use Rattle.planner.proofs.Found.{missing-exactly, own-place, cycle-found}
+use Rattle.planner.proofs.Found.{Listed, listed-by, missing-exactly, own-place, cycle-found, never, not-found}
 use Rattle.planner.proofs.Numbers.{refusedBy, few-counted, planned-count, planned-missing, planned-cycle, planned-all}
 use Rattle.planner.proofs.Sets.{set-holds, set-fits, held-alike}
-
--- RULES 11.4: as many contexts as have a plan, and every parent among them
-pub record Listed (list : List ℕ) : Type 0 where
-  pub some : 1 ≤ length list
-  pub few : length list ≤ 16
-  pub there : (p k : ℕ) → isParent list p k ≡ true → p < length list
 
 -- RULES 11.4: when each number comes
 pub data PlanGives (list : List ℕ) : ℕ → Type 0 where
@@ -45,14 +39,6 @@ pub data PlanGives (list : List ℕ) : ℕ → Type 0 where
 counted : (n : ℕ) → 1 ≤ n → n ≤ 16 → isCount n ≡ true
 counted n some few = rw (le-leb 1 n some, le-leb n 16 few)
 
--- a test that says no where nothing is found
-not-found : (b : Bool) → (b ≡ true → ⊥) → b ≡ false
-not-found true none = absurd (none refl)
-not-found false none = refl
-
-never : {b : Bool} → b ≡ false → b ≡ true → ⊥
-never not-so so = true≢false (sym so ∙ not-so)
-
 zeros : (n k : ℕ) → getD (replicate n 0) k 0 ≡ zero
 zeros zero k = refl
 zeros (suc n) zero = refl
@@ -61,13 +47,6 @@ zeros (suc n) (suc k) = zeros n k
 module _ (list : List ℕ) (isAncestor : ℕ → ℕ → Bool) (told : Tells list isAncestor) where
   abbrev plan : Planned
   plan = plannedOf list isAncestor
-
-  all-there : any (isMissing (length list)) list ≡ false → (p k : ℕ) → isParent list p k ≡ true → p < length list
-  all-there none p k h = split (ltb p (length list)) refl
-    where
-      split : (b : Bool) → ltb p (length list) ≡ b → p < length list
-      split true e = ltb-true p (length list) e
-      split false e = absurd (never none (missing-exactly list .1 (p, k, h, ltb-false p (length list) e)))
 
   gives : PlanGives list (plan .number)
   gives = by-count (isCount (length list)) refl
@@ -86,9 +65,7 @@ module _ (list : List ℕ) (isAncestor : ℕ → ℕ → Bool) (told : Tells lis
           let range = few-counted (length list) count in
           let found = missing-exactly list .0 e in
           rw (planned-missing list isAncestor count e) (parent-missing (found .0) (found .1) (range .0) (range .1) (found .2) (found .3))
-      by-parents count false e =
-          let range = few-counted (length list) count in
-          by-cycle (record { some = range .0; few = range .1; there = all-there e }) count e (any (λ k. isAncestor k k) (each (length list) (λ k. k))) refl
+      by-parents count false e = by-cycle (listed-by list count e) count e (any (λ k. isAncestor k k) (each (length list) (λ k. k))) refl
 
       out-of-range : (a b : Bool) → leb 1 (length list) ≡ a → leb (length list) 16 ≡ b → a && b ≡ false → PlanGives list 30
       out-of-range true true e f h = absurd (true≢false h)

@@ -17,7 +17,8 @@ use Rattle.planner.specs.Ancestors.{noParent, isParent, Ancestor, parent
 use Rattle.planner.specs.Plan.{each, setBelow, setOf, globalContext, plannedOf}
 use Rattle.planner.proofs.Ancestry.{parent-stands, has-place, told-alike}
 use Rattle.planner.proofs.Each.{each-at, each-length, each-same}
-use Rattle.planner.proofs.Plans.{Listed, own-ancestor, planned-free, plan-number-exactly}
+use Rattle.planner.proofs.Found.{Listed}
+use Rattle.planner.proofs.Plans.{own-ancestor, planned-free, plan-number-exactly}
 use Rattle.planner.proofs.Sets.{set-same, below-next}
 
 -- contexts of which each has the next one as its parent, and the last has a parent that is given

@@ -58,8 +58,8 @@ fn refused(number: u8) -> Planned
 
 // Goes up from a context, parent by parent, and puts the context's domain at the place of each one that it comes to, its own first. Answers whether the way
 // ends within as many contexts as there are: one that does not leads round in a cycle.
-fn mark_way(parents: &[u8], contexts: &mut [u16], context: u16) -> bool
-    requires { ⌜ length (now parents) ≤ length (now contexts) ⌝ }
+fn mark_way(parents: &[u8], contexts: &mut [u16; 16], context: u16) -> bool
+    requires { ⌜ length (now parents) ≤ 16 ⌝ }
     ensures { λ r. ⌜ r ≡ ends (now (parents .entry)) (length (now (parents .entry))) context ⌝ }
     ensures { λ _. ⌜ now (contexts .exit) ≡ marked (now (parents .entry)) (length (now (parents .entry))) context context (now (contexts .entry)) ⌝ }
 {

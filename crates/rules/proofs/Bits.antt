@@ -5,7 +5,7 @@ use mathlib.Core.Path.{_≡_, refl, sym, ap, _∙_}
 use mathlib.Core.Bool.{Bool, true, false, _&&_}
 use borrow.Author.Tests.{eqb-true, eqb-false, ne-eqb, not-false}
 use lib.Arith.{bin-ind, mod-mul}
-use lib.Bits.{bitAnd, bitOr, and-step, or-step, and-comm, or-zero-r, or-mod, and-mod, and-mask, and-shr, or-shr}
+use lib.Bits.{bitAnd, bitOr, and-step, or-step, and-comm, or-self, or-zero-r, or-mod, and-mod, and-mask, and-shr, or-shr}
 use lib.Count.{trailingZeros, trailing-of-zero, under}
 use lib.Dec.{eqb}
 use lib.Pow.{pow-pos}
@@ -53,6 +53,13 @@ and-or =
     let up = ih (b / 2) (c / 2) in
     and-step (bitOr n b) c ∙ rw (or-half n b, or-last n b, up) (
     sym (or-step (bitAnd n c) (bitAnd b c) ∙ rw (and-half n c, and-last n c, and-half b c, and-last b c) (omega arith))))
+
+pub or-twice : (a b : ℕ) → bitOr (bitOr a b) b ≡ bitOr a b
+or-twice =
+    bin-ind (λ (n : ℕ). (b : ℕ) → bitOr (bitOr n b) b ≡ bitOr n b) or-self
+    (λ n ih b.
+    let up = ih (b / 2) in
+    or-step (bitOr n b) b ∙ rw (or-half n b, or-last n b, up) (sym (or-step n b ∙ (omega arith))))
 
 -- ---- a domain that a context does not hold
 
