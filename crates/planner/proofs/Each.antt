@@ -68,20 +68,3 @@ module _ (p : ℕ → Bool) (l : List ℕ) (i : ℕ) where
 
   pub any-none : length l ≤ i → any p (drop i l) ≡ false
   any-none h = rw (drop-of-length-le l h)
-
--- the same for the numbers below n
-module _ (p : ℕ → Bool) (n k : ℕ) where
-  pub below-here : k < n → p k ≡ true → any p (drop k (each n (λ i. i))) ≡ true
-  below-here h met = any-here p (each n (λ i. i)) k (rw (each-length n (λ i. i)) h) (rw (each-at 0 n (λ i. i) k) met)
-
-  pub below-past : k < n → p k ≡ false → any p (drop k (each n (λ i. i))) ≡ any p (drop (k + 1) (each n (λ i. i)))
-  below-past h unmet = any-past p (each n (λ i. i)) k (rw (each-length n (λ i. i)) h) (rw (each-at 0 n (λ i. i) k) unmet)
-
-  pub below-none : n ≤ k → any p (drop k (each n (λ i. i))) ≡ false
-  below-none h = any-none p (each n (λ i. i)) k (rw (each-length n (λ i. i)) h)
-
--- conditions that agree on each of them
-pub any-each : (p q : ℕ → Bool) (n : ℕ) (of : ℕ → ℕ) → ((k : ℕ) → k < n → p (of k) ≡ q (of k)) → any p (each n of) ≡ any q (each n of)
-unfolding each
-any-each p q zero of same = refl
-any-each p q (suc n) of same = rw (same 0 (omega arith), any-each p q n (λ k. of (suc k)) (λ k h. same (suc k) (omega arith)))

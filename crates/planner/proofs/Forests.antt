@@ -1,11 +1,10 @@
 -- What follows from a context's having one parent at most: ancestors of ancestors are ancestors, and of two ancestors of one context, one is the other's, or they
 -- are the same. By induction on the way up.
 use Prim.Native.Nat.{ℕ}
-use mathlib.Core.Path.{_≡_, refl, sym, _∙_}
+use mathlib.Core.Path.{_≡_, sym, _∙_}
 use mathlib.Core.Bool.{true}
 use mathlib.Core.List.{List}
 use mathlib.Core.Logic.{_⊎_, inl, inr, ⊎-map}
-use lib.ListN.{length}
 use Rattle.planner.specs.Ancestors.{isParent, Ancestor, parent, above}
 use Rattle.planner.proofs.Ancestry.{parent-stands}
 
@@ -13,7 +12,13 @@ module _ (list : List ℕ) where
   one-parent : (p q k : ℕ) → isParent list p k ≡ true → isParent list q k ≡ true → p ≡ q
   one-parent p q k h h′ = sym (parent-stands list p k h .0) ∙ parent-stands list q k h′ .0
 
-  -- RULES 11.2: an ancestor of an ancestor is an ancestor
+  -- RULES 11.2: there are no other ancestors: whatever holds of parents, and with an ancestor of its parent too, holds of them all
+  pub ancestors-least : (R : (a k : ℕ) → Type 0) → ((p k : ℕ) → isParent list p k ≡ true → R p k)
+      → ((p a k : ℕ) → R a k → isParent list p a ≡ true → R p k) → {a k : ℕ} → Ancestor list a k → R a k
+  ancestors-least R first more (parent {p} {k} h) = first p k h
+  ancestors-least R first more (above {p} {a} {k} low h) = more p a k (ancestors-least R first more low) h
+
+  -- an ancestor of an ancestor is an ancestor
   pub ancestor-over : {a b k : ℕ} → Ancestor list a b → Ancestor list b k → Ancestor list a k
   ancestor-over (parent h) low = above low h
   ancestor-over (above mid h) low = above (ancestor-over mid low) h

@@ -2,10 +2,10 @@
 -- tests of a plan find one.
 use Prim.Native.Nat.{ℕ, zero, suc, _<_, _≤_}
 use mathlib.Core.Path.{_≡_, refl, sym, _∙_}
-use mathlib.Core.Bool.{Bool, true, false, not, _&&_, _||_, or-true, true≢false}
+use mathlib.Core.Bool.{Bool, true, false, not, _||_, or-true, true≢false}
 use mathlib.Core.List.{List, [], _∷_}
-use mathlib.Core.Logic.{_↔_, _⊎_, inl, inr}
-use borrow.Author.Tests.{eq-eqb, ne-eqb, eqb-false, leb-true, le-leb, ltb-true, ltb-false}
+use mathlib.Core.Logic.{_↔_}
+use borrow.Author.Tests.{eq-eqb, ne-eqb, leb-true, le-leb, ltb-true, ltb-false}
 use lib.Dec.{eqb, leb, ltb}
 use lib.ListN.{length, getD}
 use native.Mathlib.Omega.{arith}
@@ -15,7 +15,7 @@ use Rattle.planner.specs.Ancestors.{noParent, isParent, Ancestor, parent
 use Rattle.planner.specs.Plan.{each, isCount, isMissing}
 use Rattle.planner.proofs.Ancestry.{parent-stands, has-place}
 use Rattle.planner.proofs.Each.{each-at, each-length}
-use Rattle.planner.proofs.Numbers.{few-counted}
+use Rattle.planner.proofs.Numbers.{count-exactly}
 
 module _ (p : ℕ → Bool) (d : ℕ) where
   any-met : (l : List ℕ) (i : ℕ) → i < length l → p (getD l i d) ≡ true → any p l ≡ true
@@ -66,18 +66,19 @@ never not-so so = true≢false (sym so ∙ not-so)
 
 pub listed-by : (list : List ℕ) → isCount (length list) ≡ true → any (isMissing (length list)) list ≡ false → Listed list
 listed-by list count none =
-    let range = few-counted (length list) count in
+    let range = count-exactly (length list) .0 count in
     record { some = range .0; few = range .1; there = λ p k h. split p k h (ltb p (length list)) refl }
   where
     split : (p k : ℕ) → isParent list p k ≡ true → (b : Bool) → ltb p (length list) ≡ b → p < length list
     split p k h true e = ltb-true p (length list) e
     split p k h false e = absurd (never none (missing-exactly list .1 (p, k, h, ltb-false p (length list) e)))
 
--- RULES 11.4: a context that is its own ancestor. Whatever has an ancestor is a context of the list.
+-- whatever has an ancestor is a context of the list
 pub own-place : (list : List ℕ) {a k : ℕ} → Ancestor list a k → k < length list
 own-place list (parent {p} {k} h) = has-place list p k h
 own-place list (above low h) = own-place list low
 
+-- RULES 11.4: a context that is its own ancestor
 pub cycle-found : (list : List ℕ) (isAncestor : ℕ → ℕ → Bool) → Tells list isAncestor
     → (any (λ k. isAncestor k k) (each (length list) (λ k. k)) ≡ true) ↔ ((k : ℕ) × Ancestor list k k)
 cycle-found list isAncestor told = (there, back)

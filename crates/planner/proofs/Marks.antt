@@ -1,19 +1,17 @@
 -- What the planner's loop over the contexts has gathered: after the first k, each place holds those of them that are its own context or a descendant of it. One more way up
 -- adds one more of them, and after the last these are the contexts of the plan.
-use Prim.Native.Nat.{ℕ, zero, suc, _<_, _≤_, _+_, _-_}
-use mathlib.Core.Path.{_≡_, refl, sym, ap, _∙_}
+use Prim.Native.Nat.{ℕ, suc, _<_, _≤_, _+_, _-_}
+use mathlib.Core.Path.{_≡_, refl, sym, _∙_}
 use mathlib.Core.Bool.{Bool, true, false, _||_, or-true}
-use mathlib.Core.List.{List, [], _∷_}
-use mathlib.Core.Logic.{_⊎_, inl, inr, ⊎-elim, ⊎-map}
-use borrow.Author.Tests.{eqb-true, eq-eqb, ne-eqb, ltb-true, ltb-false, lt-ltb, le-ltb}
+use mathlib.Core.List.{List}
+use mathlib.Core.Logic.{_⊎_, ⊎-elim, ⊎-map}
+use borrow.Author.Tests.{eqb-true, eq-eqb, ltb-true, ltb-false}
 use lib.Dec.{eqb, ltb}
-use lib.ListN.{length, getD}
+use lib.ListN.{length}
 use native.Mathlib.Omega.{arith}
-use Rattle.rules.specs.Domains.{withBit}
 use Rattle.rules.specs.Refusals.{pick}
-use Rattle.image.specs.Description.{pad}
-use Rattle.planner.specs.Ancestors.{isParent, Ancestor, Tells}
-use Rattle.planner.specs.Plan.{each, setBelow, setOf, globalContext, contextsOf}
+use Rattle.planner.specs.Ancestors.{Ancestor, Tells}
+use Rattle.planner.specs.Plan.{each, setBelow, globalContext, contextsOf}
 use Rattle.planner.specs.Ways.{ends, marked}
 use Rattle.planner.proofs.Ancestry.{reaches, ancestry-told, told-alike, either, alike}
 use Rattle.planner.proofs.Each.{each-same, pad-each}

@@ -1,9 +1,10 @@
 -- The plan of a list by its three conditions: each number comes where the conditions before its own are not met.
 use Prim.Native.Nat.{ℕ, _≤_}
-use mathlib.Core.Path.{_≡_, refl}
+use mathlib.Core.Path.{_≡_}
 use mathlib.Core.Bool.{Bool, true, false}
 use mathlib.Core.List.{List}
-use borrow.Author.Tests.{leb-true}
+use mathlib.Core.Logic.{_↔_}
+use borrow.Author.Tests.{leb-true, le-leb}
 use lib.Dec.{leb}
 use lib.ListN.{length, replicate}
 use Rattle.rules.proofs.Decided.{and-both}
@@ -15,10 +16,12 @@ use Rattle.planner.specs.declared.Planned.{Planned}
 abbrev pub refusedBy : ℕ → Planned
 refusedBy number = record { number = number; contexts = replicate 16 0 }
 
-pub few-counted : (count : ℕ) → isCount count ≡ true → (1 ≤ count) × (count ≤ 16)
-few-counted count h =
+pub count-exactly : (count : ℕ) → (isCount count ≡ true) ↔ ((1 ≤ count) × (count ≤ 16))
+count-exactly count =
+    ((λ h.
     let both = and-both (leb 1 count) (leb count 16) h in
-    (leb-true 1 count (both .0), leb-true count 16 (both .1))
+    (leb-true 1 count (both .0), leb-true count 16 (both .1))),
+    λ range. rw (le-leb 1 count (range .0), le-leb count 16 (range .1)))
 
 module _ (list : List ℕ) (isAncestor : ℕ → ℕ → Bool) where
   pub planned-count : isCount (length list) ≡ false → plannedOf list isAncestor ≡ refusedBy 30

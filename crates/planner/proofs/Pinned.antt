@@ -1,6 +1,6 @@
 -- What the definitions of this crate come to, written out: parents, the first ancestors, sets, each number and each order of two, whole plans beside figure 4
 -- of Lopriore's paper, and a plan spelled out for every list. All is computed but the ancestors, which are named by their ways up, so that a definition that was misread differs.
-use Prim.Native.Nat.{ℕ, suc}
+use Prim.Native.Nat.{ℕ}
 use mathlib.Core.Path.{_≡_, refl}
 use mathlib.Core.Bool.{Bool, true, false, not, _&&_, _||_}
 use mathlib.Core.List.{List, [], _∷_, map}
@@ -10,9 +10,15 @@ use Rattle.rules.specs.Domains.{domainBit}
 use Rattle.rules.specs.Refusals.{pick}
 use Rattle.machine.specs.Calls.{any}
 use Rattle.image.specs.Description.{pad}
-use Rattle.planner.specs.Ancestors.{noParent, isParent, Ancestor, parent, above}
-use Rattle.planner.specs.Plan.{each, setBelow, setOf, contextsOf, isCount, isMissing, planChecks, plannedOf}
+use Rattle.planner.specs.Ancestors.{isParent, Ancestor, parent, above, Tells}
+use Rattle.planner.specs.Plan.{each, setBelow, setOf, planChecks, plannedOf}
 use Rattle.planner.specs.declared.Planned.{Planned}
+use Rattle.planner.proofs.Ancestry.{reaches, ancestry-told}
+use Rattle.planner.proofs.Plans.{plan-one}
+
+-- RULES 11.1: the parent of a context is what stands at its place, unless that is 255, for every list and all numbers
+pub parent-spelled : (list : List ℕ) (p k : ℕ) → isParent list p k ≡ (eqb (getD list k 255) p && not (eqb p 255))
+parent-spelled list p k = refl
 
 -- who is the parent of whom in a list of four: the next one's, a context's own, none, and one that is no context; past the list nobody has one
 pub parents-read :
@@ -38,43 +44,50 @@ pub sets-made :
 unfolding setBelow each domainBit
 sets-made = (refl, refl)
 
--- a test that is written out, as the list of the ancestors of each context
-abbrev by : List (List ℕ) → ℕ → ℕ → Bool
-by ancestors a k = any (eqb a) (getD ancestors k [])
-
 abbrev done : List ℕ → Planned
 done contexts = record { number = 0; contexts = contexts }
 
 abbrev refused : ℕ → Planned
 refused number = record { number = number; contexts = 0 ∷ 0 ∷ 0 ∷ 0 ∷ 0 ∷ 0 ∷ 0 ∷ 0 ∷ 0 ∷ 0 ∷ 0 ∷ 0 ∷ 0 ∷ 0 ∷ 0 ∷ 0 ∷ [] }
 
--- whole plans: contexts 0 and 1 under 2 (figure 4a), the ring of three (figure 4b), one context, two trees of which one is deep, fifteen under the last of sixteen; and
--- those that are refused, for a cycle into which context 0 leads without being its own ancestor, for a missing parent, for no context and for seventeen
+-- the plan of a list by a test that tells its ancestors (`ancestry-told`), which is the plan by every such test (`plan-one`)
+abbrev planned : List ℕ → Planned
+planned list = plannedOf list (reaches list (length list))
+
+-- whole plans: contexts 0 and 1 under 2 (figure 4a), the ring of three (figure 4b), the ring the other way round, one context, two trees of which one is deep; and those that are refused, for a
+-- cycle of one, of two, of three, one into which context 0 leads, for a missing parent, also beside a cycle, for no context and for seventeen
 pub plans-made :
-    plannedOf (2 ∷ 2 ∷ 255 ∷ []) (by ((2 ∷ []) ∷ (2 ∷ []) ∷ []))
-    ∷ plannedOf (1 ∷ 2 ∷ 255 ∷ []) (by ((1 ∷ 2 ∷ []) ∷ (2 ∷ []) ∷ []))
-    ∷ plannedOf (255 ∷ []) (by [])
-    ∷ plannedOf (255 ∷ 0 ∷ 4 ∷ 2 ∷ 255 ∷ []) (by ([] ∷ (0 ∷ []) ∷ (4 ∷ []) ∷ (2 ∷ 4 ∷ []) ∷ []))
-    ∷ plannedOf (15 ∷ 15 ∷ 15 ∷ 15 ∷ 15 ∷ 15 ∷ 15 ∷ 15 ∷ 15 ∷ 15 ∷ 15 ∷ 15 ∷ 15 ∷ 15 ∷ 15 ∷ 255 ∷ []) (by (replicate 15 (15 ∷ [])))
-    ∷ plannedOf (1 ∷ 2 ∷ 1 ∷ []) (by ((1 ∷ 2 ∷ []) ∷ (2 ∷ 1 ∷ []) ∷ (1 ∷ 2 ∷ []) ∷ []))
-    ∷ plannedOf (255 ∷ 2 ∷ []) (by [])
-    ∷ plannedOf [] (by [])
-    ∷ plannedOf (replicate 17 255) (by [])
-    ∷ []
+    map planned
+    ((2 ∷ 2 ∷ 255 ∷ []) ∷ (1 ∷ 2 ∷ 255 ∷ []) ∷ (255 ∷ 0 ∷ 1 ∷ []) ∷ (255 ∷ []) ∷ (255 ∷ 0 ∷ 4 ∷ 2 ∷ 255 ∷ []) ∷ (0 ∷ []) ∷ (1 ∷ 0 ∷ []) ∷ (1 ∷ 2 ∷ 0 ∷ []) ∷ (1 ∷ 2 ∷ 1 ∷ [])
+    ∷ (255 ∷ 2 ∷ []) ∷ (0 ∷ 2 ∷ []) ∷ [] ∷ replicate 17 255 ∷ [])
     ≡ done (1 ∷ 2 ∷ 7 ∷ 0 ∷ 0 ∷ 0 ∷ 0 ∷ 0 ∷ 0 ∷ 0 ∷ 0 ∷ 0 ∷ 0 ∷ 0 ∷ 0 ∷ 0 ∷ [])
     ∷ done (1 ∷ 3 ∷ 7 ∷ 0 ∷ 0 ∷ 0 ∷ 0 ∷ 0 ∷ 0 ∷ 0 ∷ 0 ∷ 0 ∷ 0 ∷ 0 ∷ 0 ∷ 0 ∷ [])
+    ∷ done (7 ∷ 6 ∷ 4 ∷ 0 ∷ 0 ∷ 0 ∷ 0 ∷ 0 ∷ 0 ∷ 0 ∷ 0 ∷ 0 ∷ 0 ∷ 0 ∷ 0 ∷ 0 ∷ [])
     ∷ done (1 ∷ 0 ∷ 0 ∷ 0 ∷ 0 ∷ 0 ∷ 0 ∷ 0 ∷ 0 ∷ 0 ∷ 0 ∷ 0 ∷ 0 ∷ 0 ∷ 0 ∷ 0 ∷ [])
     ∷ done (3 ∷ 2 ∷ 12 ∷ 8 ∷ 28 ∷ 0 ∷ 0 ∷ 0 ∷ 0 ∷ 0 ∷ 0 ∷ 0 ∷ 0 ∷ 0 ∷ 0 ∷ 0 ∷ [])
-    ∷ done (1 ∷ 2 ∷ 4 ∷ 8 ∷ 16 ∷ 32 ∷ 64 ∷ 128 ∷ 256 ∷ 512 ∷ 1024 ∷ 2048 ∷ 4096 ∷ 8192 ∷ 16384 ∷ 65535 ∷ [])
-    ∷ refused 32
-    ∷ refused 31
-    ∷ refused 30
-    ∷ refused 30
-    ∷ []
-unfolding plannedOf planChecks setBelow each domainBit
+    ∷ refused 32 ∷ refused 32 ∷ refused 32 ∷ refused 32 ∷ refused 31 ∷ refused 31 ∷ refused 30 ∷ refused 30 ∷ []
+unfolding plannedOf planChecks setBelow each domainBit reaches
 plans-made = refl
 
--- the numbers where one condition alone is met, at the ends of each range, and where several are
+-- RULES 11.7: so the plans of figure 4 are these, by every test that tells ancestors
+pub figures-planned :
+    ((isAncestor : ℕ → ℕ → Bool) → Tells (2 ∷ 2 ∷ 255 ∷ []) isAncestor
+    → plannedOf (2 ∷ 2 ∷ 255 ∷ []) isAncestor ≡ done (1 ∷ 2 ∷ 7 ∷ 0 ∷ 0 ∷ 0 ∷ 0 ∷ 0 ∷ 0 ∷ 0 ∷ 0 ∷ 0 ∷ 0 ∷ 0 ∷ 0 ∷ 0 ∷ []))
+    × ((isAncestor : ℕ → ℕ → Bool) → Tells (1 ∷ 2 ∷ 255 ∷ []) isAncestor
+    → plannedOf (1 ∷ 2 ∷ 255 ∷ []) isAncestor ≡ done (1 ∷ 3 ∷ 7 ∷ 0 ∷ 0 ∷ 0 ∷ 0 ∷ 0 ∷ 0 ∷ 0 ∷ 0 ∷ 0 ∷ 0 ∷ 0 ∷ 0 ∷ 0 ∷ []))
+unfolding plannedOf planChecks setBelow each domainBit reaches
+figures-planned = (by (2 ∷ 2 ∷ 255 ∷ []), by (1 ∷ 2 ∷ 255 ∷ []))
+  where
+    by : (list : List ℕ) (isAncestor : ℕ → ℕ → Bool) → Tells list isAncestor → plannedOf list isAncestor ≡ planned list
+    by list isAncestor told = plan-one list isAncestor (reaches list (length list)) told (ancestry-told list)
+
+-- RULES 11.2: of a cycle of two and a context that leads into it, those on the cycle are their own ancestors, and it is not
+pub led-into-cycle : let list : List ℕ = 1 ∷ 2 ∷ 1 ∷ [] in map (λ (k : ℕ). reaches list 3 k k) (0 ∷ 1 ∷ 2 ∷ []) ≡ false ∷ true ∷ true ∷ []
+unfolding reaches
+led-into-cycle = refl
+
+-- The numbers and the places for tests that are handed in, whether or not they tell the ancestors of the list: what a plan makes of its test, at the ends of each range. Where one
+-- condition alone is met, and where several are.
 abbrev free : ℕ → ℕ → Bool
 free a k = false
 
@@ -95,6 +108,13 @@ pub plan-numbers :
     × (plannedOf (255 ∷ 255 ∷ []) (λ a k. eqb a 0 && eqb k 1) .number ∷ plannedOf (255 ∷ []) (λ a k. eqb a 1 && eqb k 1) .number ∷ [] ≡ 0 ∷ 0 ∷ [])
 unfolding plannedOf planChecks each
 plan-numbers = (refl, refl, refl, refl, refl)
+
+-- sixteen contexts: fifteen of them below the last
+pub sixteen-placed :
+    plannedOf (replicate 16 255) (λ a k. eqb a 15 && not (eqb k 15))
+    ≡ done (1 ∷ 2 ∷ 4 ∷ 8 ∷ 16 ∷ 32 ∷ 64 ∷ 128 ∷ 256 ∷ 512 ∷ 1024 ∷ 2048 ∷ 4096 ∷ 8192 ∷ 16384 ∷ 65535 ∷ [])
+unfolding plannedOf planChecks setBelow each domainBit
+sixteen-placed = refl
 
 -- RULES 11.3, 11.4: a plan, spelled out for every list and test
 pub plan-spelled : (list : List ℕ) (isAncestor : ℕ → ℕ → Bool)

@@ -1,17 +1,17 @@
 -- The set of the domains to which a test says yes holds these and no others, and a number of sixteen bits is the set of the domains that it holds. So two sets
--- are the same where they hold the same domains, and one set with another's members is the set of either test.
+-- are the same where they hold the same domains.
 use Prim.Native.Nat.{ℕ, zero, suc, _+_, _*_, _/_, _%_, _^_, _<_, _≤_}
 use mathlib.Core.Path.{_≡_, refl, sym, ap, _∙_}
-use mathlib.Core.Bool.{Bool, true, false, not, _&&_, _||_, or-false, or-comm}
-use borrow.Author.Tests.{eqb-true, eqb-false, ltb-true, ltb-false, lt-ltb, le-ltb, eq-eqb, ne-eqb}
-use lib.Bits.{bitAnd, bitOr, or-lt, or-shifted-r}
+use mathlib.Core.Bool.{Bool, true, false, not, _&&_, _||_, or-false}
+use borrow.Author.Tests.{eqb-true, eqb-false, ltb-true, ltb-false, lt-ltb, le-ltb}
+use lib.Bits.{bitOr, or-lt, or-shifted-r}
 use lib.Dec.{eqb, ltb}
 use lib.Pow.{pow-lt, pow-pos, mod-pow-add}
 use native.Mathlib.Nat.{mod-lt, mod-one, mod-eq-of-lt}
 use native.Mathlib.Omega.{arith}
 use Rattle.rules.specs.Domains.{domainBit, holds, withBit}
 use Rattle.rules.specs.Refusals.{pick}
-use Rattle.rules.proofs.Laws.{domain-bit, no-domain-held}
+use Rattle.rules.proofs.Laws.{domain-bit}
 use Rattle.rules.proofs.Bits.{digit}
 use Rattle.rules.proofs.Lowest.{held-digit, held-either, bit-held}
 use Rattle.planner.specs.Plan.{setBelow, setOf}
@@ -112,16 +112,3 @@ held-alike a b small small′ same = sym (whole a small) ∙ set-same 16 (holds 
   where
     whole : (n : ℕ) → n < 65536 → setOf (holds n) ≡ n
     whole n fits = set-back n 16 (omega arith) ∙ mod-eq-of-lt fits
-
--- a set with another one's members is the set of what either test says yes to
-pub set-join : (f g : ℕ → Bool) → bitOr (setOf f) (setOf g) ≡ setOf (λ s. f s || g s)
-set-join f g =
-    held-alike _ _ (or-lt 16 (setOf f) (setOf g) (set-fits f) (set-fits g)) (set-fits (λ s. f s || g s)) (λ s known.
-    rw (held-either (setOf f) (setOf g) s, set-holds f s known, set-holds g s known, set-holds (λ s. f s || g s) s known))
-
--- a set with one domain more
-pub set-with : (f : ℕ → Bool) (d : ℕ) → d < 16 → withBit (setOf f) d ≡ setOf (λ s. eqb s d || f s)
-set-with f d known =
-    held-alike _ _ (or-lt 16 (setOf f) (domainBit d) (set-fits f) (bit-fits d known)) (set-fits (λ s. eqb s d || f s)) (λ s there.
-    rw (held-either (setOf f) (domainBit d) s, bit-held d s known, set-holds f s there, set-holds (λ s. eqb s d || f s) s there)
-    (or-comm (f s) (eqb s d)))

@@ -1,5 +1,5 @@
 -- `planner::any_missing` meets its contract. The loop's invariant: the parents that are left decide.
-use Prim.Native.Nat.{_-_, _≤_}
+use Prim.Native.Nat.{_-_}
 use mathlib.Core.Path.{_≡_, refl, sym, _∙_}
 use borrow.Author.Needs.{needs}
 use lib.ListN.{length, drop}
