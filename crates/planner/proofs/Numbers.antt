@@ -17,11 +17,12 @@ abbrev pub refusedBy : ℕ → Planned
 refusedBy number = record { number = number; contexts = replicate 16 0 }
 
 pub count-exactly : (count : ℕ) → (isCount count ≡ true) ↔ ((1 ≤ count) × (count ≤ 16))
-count-exactly count =
-    ((λ h.
-    let both = and-both (leb 1 count) (leb count 16) h in
-    (leb-true 1 count (both .0), leb-true count 16 (both .1))),
-    λ range. rw (le-leb 1 count (range .0), le-leb count 16 (range .1)))
+count-exactly count = (
+  (λ h.
+      let both = and-both (leb 1 count) (leb count 16) h in
+      (leb-true 1 count (both .0), leb-true count 16 (both .1))),
+  λ range. rw (le-leb 1 count (range .0), le-leb count 16 (range .1)),
+)
 
 module _ (list : List ℕ) (isAncestor : ℕ → ℕ → Bool) where
   pub planned-count : isCount (length list) ≡ false → plannedOf list isAncestor ≡ refusedBy 30

@@ -40,9 +40,13 @@ pigeonhole (suc n) f small = go (looked-for (suc n) (f (suc n)) f) (pigeonhole n
         → Twice (suc n) f
     go (inl (i, h, same)) rest = (i, suc n, h, omega arith, same)
     go (inr none) rest =
-        let found = rest (λ i h. below i (omega arith) (eqb (f i) n) refl) in
-        (found .0, found .1, found .2, omega (arith, found .3),
-        back (found .0) (found .1) (omega (arith, found .2, found .3)) (omega (arith, found .3)) (eqb (f (found .0)) n) refl (eqb (f (found .1)) n) refl (found .4))
+        let found = rest (λ i h. below i (omega arith) (eqb (f i) n) refl) in (
+          found .0,
+          found .1,
+          found .2,
+          omega (arith, found .3),
+          back (found .0) (found .1) (omega (arith, found .2, found .3)) (omega (arith, found .3)) (eqb (f (found .0)) n) refl (eqb (f (found .1)) n) refl (found .4),
+        )
       where
         below : (i : ℕ) → i < suc n → (b : Bool) → eqb (f i) n ≡ b → pick b (f (suc n)) (f i) < n
         below i h true e =

@@ -120,12 +120,12 @@ sixteen-placed = refl
 pub plan-spelled : (list : List ℕ) (isAncestor : ℕ → ℕ → Bool)
     → let n = length list in
     let number : ℕ =
-      pick (not (leb 1 n && leb n 16)) 30
-      (pick (any (λ p. not (eqb p 255) && leb n p) list) 31 (pick (any (λ k. isAncestor k k) (each n (λ k. k))) 32 0)) in
+    pick (not (leb 1 n && leb n 16)) 30
+    (pick (any (λ p. not (eqb p 255) && leb n p) list) 31 (pick (any (λ k. isAncestor k k) (each n (λ k. k))) 32 0)) in
     plannedOf list isAncestor
     ≡ record {
-        number = number;
-        contexts = pick (eqb number 0) (pad 16 0 (each n (λ k. setBelow 16 (λ j. eqb j k || isAncestor k j)))) (replicate 16 0);
-      }
+      number = number;
+      contexts = pick (eqb number 0) (pad 16 0 (each n (λ k. setBelow 16 (λ j. eqb j k || isAncestor k j)))) (replicate 16 0);
+    }
 unfolding plannedOf planChecks
 plan-spelled list isAncestor = refl

@@ -115,7 +115,7 @@ module _ (list : List ℕ) (few : length list ≤ 16) (there : (p k : ℕ) → i
           let more = rest inside end in (
             (λ on. ⊎-map (eqb-true a at) (λ on. ⊎-elim (λ same. rw same (parent h)) (λ way. ancestor-over list way (parent h)) (more .0 on)) (either (eqb a at) (onWay list left up a) on)),
             ⊎-elim (λ same. rw (eq-eqb a at same))
-            (λ way. rw (more .1 (⊎-map (λ same. sym same) (λ high. high) (from-parent list up h way))) (or-true (eqb a at))),
+                (λ way. rw (more .1 (⊎-map (λ same. sym same) (λ high. high) (from-parent list up h way))) (or-true (eqb a at))),
           )
       go false e end rest =
           let past = ltb-false up (length list) e in
