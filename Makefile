@@ -5,7 +5,7 @@
 #   make prove   removes target/ and proves every crate; no must-fail edits, no tests         (rt)
 #   make times   the same, one crate at a time, and prints the time that each takes           (rt)
 #   make test    the gate: removes target/, proofs, must-fail edits, programs, tests          (rt, bash, gcc, cargo, python3)
-#   make speed   compares the static library and the writer of images with plain C            (rt, gcc, valgrind)
+#   make speed   compares the static library, the writer and the planner with plain C         (rt, gcc, valgrind)
 
 .PHONY: help run lib prove times test speed
 .NOTPARALLEL:
@@ -66,3 +66,5 @@ speed:
 	@tests/speed/run.sh target/staticlib
 	@echo "comparing the writer of images with the plain C program .."
 	@tests/speed/write.sh
+	@echo "comparing the planner of contexts with the plain C program .."
+	@tests/speed/plan.sh

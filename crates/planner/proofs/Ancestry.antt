@@ -5,7 +5,7 @@ use mathlib.Core.Path.{_≡_, refl, sym, _∙_}
 use mathlib.Core.Bool.{Bool, true, false, not, _&&_, _||_, or-true}
 use mathlib.Core.List.{List}
 use mathlib.Core.Logic.{_⊎_, inl, inr, ⊎-elim}
-use borrow.Author.Tests.{eqb-true, eqb-false, ltb-true, ltb-false}
+use borrow.Author.Tests.{eqb-true, eqb-false, ltb-true, ltb-false, not-true}
 use lib.Dec.{eqb, ltb}
 use lib.ListN.{length, getD, List·getD-eq-default}
 use native.Mathlib.Omega.{arith}
@@ -16,11 +16,7 @@ use Rattle.planner.specs.Ancestors.{noParent, isParent, Ancestor, parent
 pub parent-stands : (list : List ℕ) (p k : ℕ) → isParent list p k ≡ true → (getD list k noParent ≡ p) × (p ≡ noParent → ⊥)
 parent-stands list p k h =
     let both = and-both (eqb (getD list k noParent) p) (not (eqb p noParent)) h in
-    (eqb-true _ _ (both .0), eqb-false p noParent (not-yes (eqb p noParent) (both .1)))
-  where
-    not-yes : (b : Bool) → not b ≡ true → b ≡ false
-    not-yes true h = sym h
-    not-yes false h = refl
+    (eqb-true _ _ (both .0), eqb-false p noParent (not-true (eqb p noParent) (both .1)))
 
 -- only a context of the list has a parent
 pub has-place : (list : List ℕ) (p k : ℕ) → isParent list p k ≡ true → k < length list

@@ -24,6 +24,7 @@ use Rattle.planner.proofs.Ways.{onWay, marked-each, way-exactly}
 abbrev pub within : List ℕ → (a j : ℕ) → Bool
 within list a j = eqb j a || reaches list (length list) a j
 
+-- what is gathered of the first k contexts
 abbrev pub gathered : List ℕ → (k : ℕ) → List ℕ
 gathered list k = each 16 (λ a. setBelow k (within list a))
 

@@ -1,4 +1,5 @@
--- The way up from a context, as the planner's loop goes it: one turn of the loop, and what the way comes to.
+-- The way up from a context, as the planner's loop goes it: one turn of the loop; the contexts that a way which ends has come to, by induction on how many are left; and that a way which does
+-- not end comes to some context twice, since there are not as many contexts as steps.
 use Prim.Native.Nat.{ℕ, zero, suc, _+_, _-_, _<_, _≤_}
 use mathlib.Core.Path.{_≡_, refl, sym, subst, _∙_}
 use mathlib.Core.Bool.{Bool, true, false, _||_, or-true, or-false, true≢false}
