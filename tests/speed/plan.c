@@ -19,7 +19,8 @@
 #include <time.h>
 
 /* The core's planner, in the same form; tests/speed/plan.sh builds it. */
-uint8_t core_plan(const uint8_t *parents, size_t count, uint16_t *contexts, size_t places);
+uint8_t core_plan(const uint8_t *parents, size_t count, uint16_t *contexts,
+                  size_t places);
 
 enum { LISTS = 256 };
 
@@ -34,17 +35,20 @@ static uint32_t below(uint32_t bound)
     return (state >> 16) % bound;
 }
 
-/* Each context, in an order that differs from list to list, below one that was placed before it, or below none. */
+/* Each context, in an order that differs from list to list, has a parent that
+   was placed before it, or none. */
 static void forests(uint8_t *list)
 {
-    uint8_t order[PLACES];
+    uint8_t order[PLACES] = {0};
     for (size_t i = 0; i < count; i++) {
         size_t at = below((uint32_t)i + 1);
         order[i] = order[at];
         order[at] = (uint8_t)i;
     }
     for (size_t i = 0; i < count; i++)
-        list[order[i]] = i == 0 || below(8) == 0 ? NO_PARENT : order[below((uint32_t)i)];
+        list[order[i]] = i == 0 || below(8) == 0
+            ? NO_PARENT
+            : order[below((uint32_t)i)];
 }
 
 static void rings(uint8_t *list)
@@ -97,8 +101,10 @@ static int agree(size_t sort)
 {
     for (size_t i = 0; i < LISTS; i++) {
         uint16_t plain[PLACES], core[PLACES];
-        if (with_plain(lists[i], plain) != with_core(lists[i], core) || memcmp(plain, core, sizeof plain) != 0) {
-            fprintf(stderr, "%s: the two differ on list %zu\n", sorts[sort].name, i);
+        if (with_plain(lists[i], plain) != with_core(lists[i], core)
+            || memcmp(plain, core, sizeof plain) != 0) {
+            fprintf(stderr, "%s: the two differ on list %zu\n",
+                    sorts[sort].name, i);
             return 0;
         }
     }
@@ -134,7 +140,8 @@ static double lesser(double a, double b)
 static int compare(void)
 {
     enum { ROUNDS = 20 };
-    printf("%-8s %8s %14s %14s %7s\n", "planner", "contexts", "plain ns", "core ns", "ratio");
+    printf("%-8s %8s %14s %14s %7s\n", "planner", "contexts", "plain ns",
+           "core ns", "ratio");
     for (size_t sort = 0; sort < SORTS; sort++) {
         make(sort);
         if (!agree(sort))
@@ -144,7 +151,8 @@ static int compare(void)
             plain = lesser(plain, seconds_for(with_plain));
             core = lesser(core, seconds_for(with_core));
         }
-        printf("%-8s %8zu %14.1f %14.1f %7.2f\n", sorts[sort].name, count, plain * 1e9, core * 1e9, core / plain);
+        printf("%-8s %8zu %14.1f %14.1f %7.2f\n", sorts[sort].name, count,
+               plain * 1e9, core * 1e9, core / plain);
     }
     return 0;
 }
