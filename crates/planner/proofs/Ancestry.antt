@@ -1,5 +1,5 @@
--- Every list has a test that tells its ancestors. By allowing one context after the other between the two: a way from k up to a by way of contexts below
--- m + 1 either does without m, or goes up to m and from m up to a by way of contexts below m.
+-- Every list has a test that tells its ancestors. By allowing one context after the other between the two: a is reached from k through contexts below m + 1 either without m, or m is reached from k and a
+-- from m, both through contexts below m.
 use Prim.Native.Nat.{ℕ, zero, suc, _<_}
 use mathlib.Core.Path.{_≡_, refl, sym, _∙_}
 use mathlib.Core.Bool.{Bool, true, false, not, _&&_, _||_, or-true}

@@ -1,4 +1,4 @@
--- What follows from a context's having one parent at most: ancestors of ancestors are ancestors, and of two ancestors of one context, one is the other's, or they
+-- Ancestors of ancestors are ancestors, and there are none but those that the definition makes. Since a context has one parent at most, of two ancestors of one context one is the other's, or they
 -- are the same. By induction on the way up.
 use Prim.Native.Nat.{ℕ}
 use mathlib.Core.Path.{_≡_, sym, _∙_}

@@ -1,4 +1,4 @@
--- Some number of a list meets a condition exactly where one at a place does; so some parent is missing, and some context is its own ancestor, exactly where the
+-- Some number of a list meets a condition exactly where one at a place does, by induction on the list; so some parent is missing, and some context is its own ancestor, exactly where the
 -- tests of a plan find one.
 use Prim.Native.Nat.{ℕ, zero, suc, _<_, _≤_}
 use mathlib.Core.Path.{_≡_, refl, sym, _∙_}

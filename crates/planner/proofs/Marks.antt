@@ -1,5 +1,5 @@
 -- What the planner's loop over the contexts has gathered: after the first k, each place holds those of them that are its own context or a descendant of it. One more way up
--- adds one more of them, and after the last these are the contexts of the plan.
+-- adds one more of them, from what a way that ends has come to, and after the last these are the contexts of the plan.
 use Prim.Native.Nat.{ℕ, suc, _<_, _≤_, _+_, _-_}
 use mathlib.Core.Path.{_≡_, refl, sym, _∙_}
 use mathlib.Core.Bool.{Bool, true, false, _||_, or-true}

@@ -1,4 +1,4 @@
--- The plan of a list by its three conditions: each number comes where the conditions before its own are not met.
+-- The plan of a list by its three conditions: each number comes where the conditions before its own are not met. By computing the conditions.
 use Prim.Native.Nat.{ℕ, _≤_}
 use mathlib.Core.Path.{_≡_}
 use mathlib.Core.Bool.{Bool, true, false}

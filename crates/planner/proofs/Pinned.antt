@@ -14,13 +14,15 @@ use Rattle.planner.specs.Ancestors.{isParent, Ancestor, parent, above, T
 use Rattle.planner.specs.Plan.{each, setBelow, setOf, planChecks, plannedOf}
 use Rattle.planner.specs.declared.Planned.{Planned}
 use Rattle.planner.proofs.Ancestry.{reaches, ancestry-told}
+use Rattle.planner.proofs.Found.{never}
 use Rattle.planner.proofs.Plans.{plan-one}
+use Rattle.planner.proofs.Rings.{row, ring}
 
 -- RULES 11.1: the parent of a context is what stands at its place, unless that is 255, for every list and all numbers
 pub parent-spelled : (list : List ℕ) (p k : ℕ) → isParent list p k ≡ (eqb (getD list k 255) p && not (eqb p 255))
 parent-spelled list p k = refl
 
--- who is the parent of whom in a list of four: the next one's, a context's own, none, and one that is no context; past the list nobody has one
+-- who is the parent of whom in a list of four: the next context, a context itself, none, and one that is no context; past the list nobody has one
 pub parents-read :
     let list : List ℕ = 1 ∷ 1 ∷ 255 ∷ 9 ∷ [] in
     (map (λ p. isParent list p 0) (0 ∷ 1 ∷ 2 ∷ 255 ∷ []) ≡ false ∷ true ∷ false ∷ false ∷ [])
@@ -82,9 +84,21 @@ figures-planned = (by (2 ∷ 2 ∷ 255 ∷ []), by (1 ∷ 2 ∷ 255 ∷ []))
     by list isAncestor told = plan-one list isAncestor (reaches list (length list)) told (ancestry-told list)
 
 -- RULES 11.2: of a cycle of two and a context that leads into it, those on the cycle are their own ancestors, and it is not
-pub led-into-cycle : let list : List ℕ = 1 ∷ 2 ∷ 1 ∷ [] in map (λ (k : ℕ). reaches list 3 k k) (0 ∷ 1 ∷ 2 ∷ []) ≡ false ∷ true ∷ true ∷ []
+pub led-into-cycle :
+    let list : List ℕ = 1 ∷ 2 ∷ 1 ∷ [] in
+    (Ancestor list 0 0 → ⊥) × Ancestor list 1 1 × Ancestor list 2 2
 unfolding reaches
-led-into-cycle = refl
+led-into-cycle =
+    let list : List ℕ = 1 ∷ 2 ∷ 1 ∷ [] in
+    ((λ way. never refl (ancestry-told list 0 0 .1 way)), ancestry-told list 1 1 .0 refl, ancestry-told list 2 2 .0 refl)
+
+-- RULES 11.5: rings, and lists that lead round
+pub rings-written :
+    (ring 1 ∷ ring 2 ∷ ring 3 ∷ ring 16 ∷ []
+    ≡ (255 ∷ []) ∷ (1 ∷ 255 ∷ []) ∷ (1 ∷ 2 ∷ 255 ∷ []) ∷ (1 ∷ 2 ∷ 3 ∷ 4 ∷ 5 ∷ 6 ∷ 7 ∷ 8 ∷ 9 ∷ 10 ∷ 11 ∷ 12 ∷ 13 ∷ 14 ∷ 15 ∷ 255 ∷ []) ∷ [])
+    × (row 0 1 ∷ row 0 2 ∷ row 0 3 ∷ [] ≡ (0 ∷ []) ∷ (1 ∷ 0 ∷ []) ∷ (1 ∷ 2 ∷ 0 ∷ []) ∷ [])
+unfolding each
+rings-written = (refl, refl)
 
 -- The numbers and the places for tests that are handed in, whether or not they tell the ancestors of the list: what a plan makes of its test, at the ends of each range. Where one
 -- condition alone is met, and where several are.

@@ -39,6 +39,12 @@ pub data PlanGives (list : List ℕ) : ℕ → Type 0 where
 pub plan-one : (list : List ℕ) (one two : ℕ → ℕ → Bool) → Tells list one → Tells list two → plannedOf list one ≡ plannedOf list two
 plan-one list one two first second = ap (plannedOf list) (fun-ext (λ a. fun-ext (told-alike list one two first second a)))
 
+-- RULES 11.3: a plan that is refused has zero in all sixteen places, whatever refuses it
+pub refused-plan-zero : (list : List ℕ) (isAncestor : ℕ → ℕ → Bool) → (plannedOf list isAncestor .number ≡ 0 → ⊥)
+    → plannedOf list isAncestor .contexts ≡ 0 ∷ 0 ∷ 0 ∷ 0 ∷ 0 ∷ 0 ∷ 0 ∷ 0 ∷ 0 ∷ 0 ∷ 0 ∷ 0 ∷ 0 ∷ 0 ∷ 0 ∷ 0 ∷ []
+unfolding plannedOf
+refused-plan-zero list isAncestor refused = rw (ne-eqb (plannedOf list isAncestor .number) 0 refused)
+
 zeros : (n k : ℕ) → getD (replicate n 0) k 0 ≡ zero
 zeros zero k = refl
 zeros (suc n) zero = refl
@@ -99,11 +105,6 @@ module _ (list : List ℕ) (isAncestor : ℕ → ℕ → Bool) (told : Tells lis
   -- RULES 11.4: each number comes where its condition says, and nowhere else; there are no others
   pub plan-number-exactly : (n : ℕ) → (made .number ≡ n) ↔ PlanGives list n
   plan-number-exactly n = ((λ e. subst (PlanGives list) e gives), given)
-
-  -- RULES 11.4: a plan that is refused has zero in all sixteen places, whatever refuses it
-  pub refused-plan-zero : (made .number ≡ 0 → ⊥) → made .contexts ≡ 0 ∷ 0 ∷ 0 ∷ 0 ∷ 0 ∷ 0 ∷ 0 ∷ 0 ∷ 0 ∷ 0 ∷ 0 ∷ 0 ∷ 0 ∷ 0 ∷ 0 ∷ 0 ∷ []
-  unfolding plannedOf
-  refused-plan-zero refused = rw (ne-eqb (made .number) 0 refused)
 
   module _ (done : made .number ≡ 0) where
     planned-places : made .contexts ≡ contextsOf isAncestor (length list)
@@ -171,10 +172,10 @@ module _ (list : List ℕ) (isAncestor : ℕ → ℕ → Bool) (told : Tells lis
         kept true b also = also refl
         kept false b also = refl
 
-    -- RULES 11.6: two contexts of which neither is an ancestor of the other share no domain
-    pub strangers-apart : (a b : ℕ) → a < length list → b < length list
+    -- RULES 11.6: two different contexts, of which neither is an ancestor of the other, share no domain
+    pub unrelated-apart : (a b : ℕ) → a < length list → b < length list
         → (a ≡ b → ⊥) → (Ancestor list a b → ⊥) → (Ancestor list b a → ⊥) → bitAnd (getD (made .contexts) a 0) (getD (made .contexts) b 0) ≡ 0
-    strangers-apart a b here there differ under over =
+    unrelated-apart a b here there differ under over =
         held-alike _ _ (omega (arith, and-le-l (getD (made .contexts) a 0) (getD (made .contexts) b 0), small a here)) (omega arith) (λ s _.
         not-found _ (λ held.
         let both = both-held (getD (made .contexts) a 0) (getD (made .contexts) b 0) s held in
@@ -198,7 +199,7 @@ module _ (list : List ℕ) (isAncestor : ℕ → ℕ → Bool) (told : Tells lis
           at : made .number ≡ 0 → (k : ℕ) → (b : Bool) → ltb k (length list) ≡ b → getD (made .contexts) k 0 < 65536
           at done k true h = small done k (ltb-true k (length list) h)
           at done k false h = rw (places-past-zero done k (ltb-false k (length list) h)) (omega arith)
-      split false e = rw (refused-plan-zero (eqb-false (made .number) 0 e)) (refl, λ k. rw (zeros 16 k) (omega arith))
+      split false e = rw (refused-plan-zero list isAncestor (eqb-false (made .number) 0 e)) (refl, λ k. rw (zeros 16 k) (omega arith))
 
   -- RULES 11.6: an image whose programs have their global contexts from a plan is legal, as far as its counts, fields and masks are
   pub planned-legal : (d : Description) → Shaped d → ((i : ℕ) → getD (d .fields) i 0 < 65536) → ((i : ℕ) → getD (d .programs) i noProgram .mask < 65536)

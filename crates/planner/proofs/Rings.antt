@@ -22,7 +22,7 @@ use Rattle.planner.proofs.Plans.{own-ancestor, planned-free, plan-numbe
 use Rattle.planner.proofs.Sets.{set-same, below-next}
 
 -- contexts of which each has the next one as its parent, and the last has a parent that is given
-abbrev row : (last n : ℕ) → List ℕ
+abbrev pub row : (last n : ℕ) → List ℕ
 row last n = each n (λ k. pick (eqb (1 + k) n) last (1 + k))
 
 module _ (last n : ℕ) where
@@ -70,18 +70,18 @@ module _ (last n : ℕ) where
 abbrev pub ring : ℕ → List ℕ
 ring n = row noParent n
 
+ring-parent : (n p k : ℕ) → isParent (ring n) p k ≡ true → (p ≡ suc k) × (p < n)
+ring-parent n p k h = ⊎-elim (λ none. absurd (parent-stands (ring n) p k h .1 none)) (λ up. up) (row-parent noParent n p k h)
+
+-- so no other context is an ancestor
+ring-above : (n : ℕ) {a k : ℕ} → Ancestor (ring n) a k → (k < a) × (a < n)
+ring-above n (parent {p} {k} h) = let up = ring-parent n p k h in (omega (arith, up .0), up .1)
+ring-above n (above {p} {a} low h) =
+    let up = ring-parent n p a h in
+    let rest = ring-above n low in
+    (omega (arith, up .0, rest .0), up .1)
+
 module _ (n : ℕ) (few : n ≤ 16) where
-  ring-parent : (p k : ℕ) → isParent (ring n) p k ≡ true → (p ≡ suc k) × (p < n)
-  ring-parent p k h = ⊎-elim (λ none. absurd (parent-stands (ring n) p k h .1 none)) (λ up. up) (row-parent noParent n p k h)
-
-  -- so no other context is an ancestor
-  ring-above : {a k : ℕ} → Ancestor (ring n) a k → (k < a) × (a < n)
-  ring-above (parent {p} {k} h) = let up = ring-parent p k h in (omega (arith, up .0), up .1)
-  ring-above (above {p} {a} low h) =
-      let up = ring-parent p a h in
-      let rest = ring-above low in
-      (omega (arith, up .0, rest .0), up .1)
-
   -- so this test tells the ancestors of the ring
   ring-told : Tells (ring n) (λ a k. ltb k a && ltb a n)
   ring-told a k = (there, back)
@@ -90,7 +90,7 @@ module _ (n : ℕ) (few : n ≤ 16) where
       there h = let both = and-both (ltb k a) (ltb a n) h in row-above noParent n few a k (ltb-true k a (both .0)) (ltb-true a n (both .1))
 
       back : Ancestor (ring n) a k → ltb k a && ltb a n ≡ true
-      back way = let both = ring-above way in rw (lt-ltb k a (both .0), lt-ltb a n (both .1))
+      back way = let both = ring-above n way in rw (lt-ltb k a (both .0), lt-ltb a n (both .1))
 
 -- the set of the domains below m, computed for each
 first-domains : (m : ℕ) → m < 17 → setOf (λ j. ltb j m) ≡ 2 ^ m - 1
@@ -101,14 +101,14 @@ first-domains m h = eqb-true _ _ (every-holds 17 (λ k. eqb (setOf (λ j. ltb j 
 pub ring-planned : (n : ℕ) → 1 ≤ n → n ≤ 16 → (isAncestor : ℕ → ℕ → Bool) → Tells (ring n) isAncestor
     → plannedOf (ring n) isAncestor ≡ record { number = 0; contexts = pad 16 0 (each n (λ i. 2 ^ (1 + i) - 1)) }
 ring-planned n some few isAncestor told =
-    planned-free (ring n) isAncestor told listed (λ k way. let both = ring-above n few way in omega (arith, both .0))
+    planned-free (ring n) isAncestor told listed (λ k way. let both = ring-above n way in omega (arith, both .0))
     ∙ rw size (ap (λ (l : List ℕ). record { number = 0; contexts = pad 16 0 l }) (each-same n (globalContext isAncestor) (λ i. 2 ^ (1 + i) - 1) bits))
   where
     size : length (ring n) ≡ n
     size = row-length noParent n
 
     listed : Listed (ring n)
-    listed = record { some = rw size some; few = rw size few; there = λ p k h. rw size (ring-parent n few p k h .1) }
+    listed = record { some = rw size some; few = rw size few; there = λ p k h. rw size (ring-parent n p k h .1) }
 
     bits : (i : ℕ) → i < n → globalContext isAncestor i ≡ 2 ^ (1 + i) - 1
     bits i below =
@@ -119,20 +119,20 @@ ring-planned n some few isAncestor told =
         (or-comm (eqb j i) (ltb j i)))
         ∙ first-domains (suc i) (omega arith))
 
--- RULES 11.4: a cycle of any count from 1 to 16 is refused: a ring whose last context has the first one as its parent
+-- RULES 11.5: a cycle of any count from 1 to 16 is refused: a ring whose last context has the first one as its parent
 pub round-refused : (n : ℕ) → 1 ≤ n → n ≤ 16 → (isAncestor : ℕ → ℕ → Bool) → Tells (row 0 n) isAncestor → plannedOf (row 0 n) isAncestor .number ≡ 32
 round-refused zero some few isAncestor told = absurd (omega arith)
 round-refused (suc m) some few isAncestor told =
     plan-number-exactly (row 0 (suc m)) isAncestor told 32 .1 (own-ancestor listed (own (eqb m 0) refl))
   where
-    first-parent : isParent (row 0 (suc m)) 0 m ≡ true
-    first-parent = rw (row-at 0 (suc m) m (omega arith), eq-eqb (1 + m) (suc m) (omega arith))
+    leads-round : isParent (row 0 (suc m)) 0 m ≡ true
+    leads-round = rw (row-at 0 (suc m) m (omega arith), eq-eqb (1 + m) (suc m) (omega arith))
 
     own : (b : Bool) → eqb m 0 ≡ b → Ancestor (row 0 (suc m)) 0 0
-    own true e = parent (subst (λ (x : ℕ). isParent (row 0 (suc m)) 0 x ≡ true) (eqb-true m 0 e) first-parent)
+    own true e = parent (subst (λ (x : ℕ). isParent (row 0 (suc m)) 0 x ≡ true) (eqb-true m 0 e) leads-round)
     own false e =
         let more = eqb-false m 0 e in
-        above (row-above 0 (suc m) few m 0 (omega (arith, more)) (omega arith)) first-parent
+        above (row-above 0 (suc m) few m 0 (omega (arith, more)) (omega arith)) leads-round
 
     listed : Listed (row 0 (suc m))
     listed =

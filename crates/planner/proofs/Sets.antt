@@ -1,4 +1,4 @@
--- The set of the domains to which a test says yes holds these and no others, and a number of sixteen bits is the set of the domains that it holds. So two sets
+-- The set of the domains to which a test says yes holds these and no others, by induction on the domains. A number of sixteen bits is the set of the domains that it holds, by its binary digits; so two sets
 -- are the same where they hold the same domains.
 use Prim.Native.Nat.{ℕ, zero, suc, _+_, _*_, _/_, _%_, _^_, _<_, _≤_}
 use mathlib.Core.Path.{_≡_, refl, sym, ap, _∙_}

@@ -1,5 +1,5 @@
 -- The way up from a context, as the planner's loop goes it: one turn of the loop; the contexts that a way which ends has come to, by induction on how many are left; and that a way which does
--- not end comes to some context twice, since there are not as many contexts as steps.
+-- not end comes to some context twice, since it has then stood at one context more than there are.
 use Prim.Native.Nat.{ℕ, zero, suc, _+_, _-_, _<_, _≤_}
 use mathlib.Core.Path.{_≡_, refl, sym, subst, _∙_}
 use mathlib.Core.Bool.{Bool, true, false, _||_, or-true, or-false, true≢false}
@@ -81,7 +81,17 @@ marked-each list few (suc left) at domain of =
     go true e rest =
         rw (stored (ltb-true at (length list) e)) (rest ∙ each-same 16 _ _ (λ a _. both a (onWay list left (getD list at noParent) a) (eqb a at) refl))
 
--- where every parent is a context of the list, these are the context itself and its ancestors, as far as the way ends; one that does not end comes to a context twice
+-- a context that is its own ancestor has a way that does not end
+pub own-endless : (list : List ℕ) (left k : ℕ) → Ancestor list k k → ends list left k ≡ false
+unfolding ends
+own-endless list zero k way = lt-leb (length list) k (own-place list way)
+own-endless list (suc left) k way =
+    let up = first-parent list way in
+    let stands = parent-stands list (up .0) k (up .1) .0 in
+    rw (lt-ltb k (length list) (own-place list way), stands)
+    (own-endless list left (up .0) (⊎-elim (λ same. subst (λ (x : ℕ). Ancestor list x x) (sym same) way) (λ high. ancestor-over list (parent (up .1)) high) (from-parent list (up .0) (up .1) way)))
+
+-- where every parent is a context of the list, the way comes to the context itself and its ancestors, where it ends; one that does not end comes to a context twice
 module _ (list : List ℕ) (few : length list ≤ 16) (there : (p k : ℕ) → isParent list p k ≡ true → p < length list) where
   -- what stands at a context's place is its parent, where it is in the list
   in-list : (k : ℕ) → getD list k noParent < length list → isParent list (getD list k noParent) k ≡ true
@@ -124,16 +134,6 @@ module _ (list : List ℕ) (few : length list ≤ 16) (there : (p k : ℕ) → i
             (λ on. inl (eqb-true a at on)),
             ⊎-elim (eq-eqb a at) (λ way. absurd (out-of-list at past way)),
           )
-
-  -- a context that is its own ancestor has a way that does not end
-  pub own-endless : (left k : ℕ) → Ancestor list k k → ends list left k ≡ false
-  unfolding ends
-  own-endless zero k way = lt-leb (length list) k (own-place list way)
-  own-endless (suc left) k way =
-      let up = first-parent list way in
-      let stands = parent-stands list (up .0) k (up .1) .0 in
-      rw (lt-ltb k (length list) (own-place list way), stands)
-      (own-endless left (up .0) (⊎-elim (λ same. subst (λ (x : ℕ). Ancestor list x x) (sym same) way) (λ high. ancestor-over list (parent (up .1)) high) (from-parent list (up .0) (up .1) way)))
 
   -- the context that stands so many steps up
   up : ℕ → ℕ → ℕ

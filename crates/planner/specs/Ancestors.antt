@@ -11,7 +11,7 @@ use lib.ListN.{getD}
 abbrev pub noParent : ℕ
 noParent = 255
 
--- RULES 11.1: p is the parent of context k: it stands at k's place in the list. Past the end of the list there is no context, and so no parent.
+-- RULES 11.1: p is the parent of context k: it stands at k's place in the list, and is not what stands for none. Past the end of the list there is no context, and so no parent.
 abbrev pub isParent : List ℕ → (p k : ℕ) → Bool
 isParent list p k = eqb (getD list k noParent) p && not (eqb p noParent)
 

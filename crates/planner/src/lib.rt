@@ -97,7 +97,7 @@ fn plan_ways(parents: &[u8]) -> Planned
 }
 
 // The plan of a list of contexts, a byte each: the number of its parent, or NO_PARENT. Whatever test tells the ancestors of the list, the plan is the one
-// that is said with it; there is one for every list (`ancestry-told`, proofs/Ancestry.antt).
+// that is said with it; there is such a test for every list (`ancestry-told`, proofs/Ancestry.antt).
 pub fn plan(parents: &[u8]) -> Planned
     ensures { λ r. ⌜ ((isAncestor : ℕ → ℕ → Bool) → Tells (now (parents .entry)) isAncestor → r ≡ plannedOf (now (parents .entry)) isAncestor) ⌝ }
 {

@@ -40,7 +40,7 @@ fn print_plan(list: &[u8], which: u64) -> Planned
     planned
 }
 
-// Plans the lists one after another, and answers how many bytes they were stored in.
+// Plans the lists one after another, and answers how many bytes there are.
 fn print_plans(bytes: &[u8]) -> usize
     requires { ⌜ length (now bytes) ≤ 65536 ⌝ }
     ensures { λ r. ⌜ r ≡ length (now (bytes .entry)) ⌝ }

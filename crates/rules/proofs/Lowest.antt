@@ -95,7 +95,7 @@ held-both =
     made-held bitAnd _&&_ and-shr and-mod
     (two-digits (λ x y. not (eqb (bitAnd x y) 0) ≡ not (eqb x 0) && not (eqb y 0)) refl refl refl refl) refl
 
--- what two sets come to together holds the domains that either holds
+-- the union of two sets holds the domains that either holds
 pub held-either : (one two s : ℕ) → holds (bitOr one two) s ≡ holds one s || holds two s
 held-either =
     made-held bitOr _||_ or-shr or-mod

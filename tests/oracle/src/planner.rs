@@ -17,7 +17,7 @@ pub struct Planned {
 }
 
 impl Planned {
-    /// A refused plan has nothing in any place (RULES 11.4).
+    /// A refused plan has nothing in any place (RULES 11.3).
     pub fn refused(number: u8) -> Planned {
         Planned { number, contexts: [0; PLACES] }
     }

@@ -685,7 +685,7 @@ impl Met {
     }
 
     /// A domain is named where an access in user mode was allowed and nowhere else; its bit is in the
-    /// field of the first byte's page and in the local context, and no lower one is (RULES 3.3).
+    /// field of the first byte's page and in the local context, and no lower one is (RULES 1.17).
     fn check(&self) {
         let Some(Domain(s)) = self.outcome.named() else {
             assert!(!self.given(), "an access that was given and names none");

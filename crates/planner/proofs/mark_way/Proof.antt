@@ -1,4 +1,4 @@
--- `planner::mark_way` meets its contract. The loop's invariant: what is left of the way decides, and what is marked on it is all that is still to come.
+-- `planner::mark_way` meets its contract. The loop's invariant: from where the loop stands, the rest of the way answers and marks what the whole way does.
 use Prim.Native.Nat.{_<_}
 use mathlib.Core.Path.{_≡_, refl, sym, _∙_}
 use borrow.Author.Needs.{needs}

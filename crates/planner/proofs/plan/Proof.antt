@@ -1,4 +1,4 @@
--- `planner::plan` meets its contract: the two refusals are those of `plannedOf`, and where neither comes the rest of the work has been asked for.
+-- `planner::plan` meets its contract: the two refusals are those of `plannedOf`, and where neither comes the plan is that of `plan_ways`.
 use mathlib.Core.Path.{_≡_, sym, _∙_}
 use mathlib.Core.Bool.{true}
 use borrow.Author.Needs.{needs}

@@ -73,7 +73,7 @@ returns-2 c isAncestor told =
     let loop = c .before .loop in
     let all : loop .context ≡ length list = omega arith in
     let free : (k : ℕ) → Ancestor list k k → ⊥ = λ k way.
-    never (own-endless list (listed start .few) (listed start .there) (length list) k way) (loop .inv .2 k (omega (arith, own-place list way))) in
+    never (own-endless list (length list) k way) (loop .inv .2 k (omega (arith, own-place list way))) in
     rw (loop .inv .1, all, all-gathered list (listed start) isAncestor told) (sym (planned-free list isAncestor told (listed start) free))
 
 pub plan-ways-spec : {M : Type 1} → statement M
