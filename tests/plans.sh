@@ -13,4 +13,14 @@ for seed in 1 2 3 4 5; do
     "$plans" <"$out/input" >"$out/printed"
     cmp "$out/due" "$out/printed"
 done
+# A list that the input cuts is left out, and so is a single byte that is left.
+for size in -1 -2 -3; do
+    head -c "$size" "$out/input" >"$out/cut"
+    "$oracle" plans-text <"$out/cut" >"$out/due"
+    "$plans" <"$out/cut" >"$out/printed"
+    cmp "$out/due" "$out/printed"
+done
+printf '\000' >>"$out/input"
+"$plans" <"$out/input" >"$out/printed"
+"$oracle" plans-text <"$out/input" | cmp - "$out/printed"
 echo "plans: all agree"

@@ -57,12 +57,12 @@ static void rings(uint8_t *list)
         list[i] = i + 1 == count ? NO_PARENT : (uint8_t)(i + 1);
 }
 
-/* A forest in which two contexts are each other's parents. */
+/* A forest in which the last two contexts are each other's parents. */
 static void cycles(uint8_t *list)
 {
     forests(list);
-    list[0] = 1;
-    list[1] = 0;
+    list[count - 1] = (uint8_t)(count - 2);
+    list[count - 2] = (uint8_t)(count - 1);
 }
 
 static const struct {
@@ -116,8 +116,10 @@ static volatile uint16_t seen;
 static void plan_all(plan_function *plan)
 {
     uint16_t contexts[PLACES];
-    for (size_t i = 0; i < LISTS; i++)
-        seen = (uint16_t)(plan(lists[i], contexts) + contexts[i % PLACES]);
+    for (size_t i = 0; i < LISTS; i++) {
+        uint8_t number = plan(lists[i], contexts);
+        seen = (uint16_t)(number + contexts[i % PLACES]);
+    }
 }
 
 static double seconds_for(plan_function *plan)
