@@ -51,7 +51,7 @@ abbrev pub touched : Width → ℕ → List ℕ
 touched One address = address ∷ []
 touched Two address = address ∷ (address + 1) ∷ []
 
--- RULES 3.2, 11.4: some number of a list meets a condition
+-- RULES 3.2: some byte of a list meets a condition
 abbrev pub any : (ℕ → Bool) → List ℕ → Bool
 any meets [] = false
 any meets (x ∷ rest) = meets x || any meets rest
