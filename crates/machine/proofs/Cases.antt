@@ -71,7 +71,7 @@ unfolding callOf isSound
 not-sound-first = refl
 
 -- user mode, the flag clear, depth 0. Page 0 is held by domains 0 and 3 for READ and by none for WRITE, page 2 by 2 and 3 for READ; the local
--- context has domains 0 and 1.
+-- context has domains 0 and 1, the global context 2 too.
 pub user-order :
     Answers callOf (node 0 User false)
     ((Access One 2 768, 2)
@@ -87,7 +87,9 @@ pub user-order :
     (both 0 2 2 11
     (both 0 0 0 12
     (both 0 0 15 0
-    ((SetMask 0, 0)
+    ((SetMask 0, 19)
+    ∷ (SetMask 65528, 19)
+    ∷ (SetMask 65532, 0)
     ∷ (Enter, 0)
     ∷ (Return, 7)
     ∷ (Switch 2, 7)
@@ -219,7 +221,8 @@ pub user-effects :
     ∷ (before, Grant 0 (asPage 1) (asDomain 3), before)
     ∷ (before, Revoke 0 (asPage 1) (asDomain 3), user (fieldsOf 9 0 2 2 12 4) (live 7 3 User false))
     ∷ (before, Revoke 0 (asPage 1) (asDomain 4), before)
-    ∷ (before, SetMask 65528, user figure (live 7 65528 User false))
+    ∷ (before, SetMask 65532, user figure (live 7 65532 User false))
+    ∷ (before, SetMask 65528, before)
     ∷ [])
 unfolding callOf checksOf accessChecks changeChecks effectOf after isSound prevailing domainBit trailingZeros
 user-effects = refl

@@ -91,7 +91,7 @@ module _ (m : Machine) where
   pub command-numbers-spelled : (right bits : ℕ) (page : Page) (s : Domain)
       → (number (Grant right page s) ≡ change-number right (page .0) (s .0))
       × (number (Revoke right page s) ≡ change-number right (page .0) (s .0))
-      × (number (SetMask bits) ≡ pick privileged 6 (pick pending 8 0))
+      × (number (SetMask bits) ≡ pick privileged 6 (pick pending 8 (pick (eqb (bitAnd bits (m .registers .context)) 0) 19 0)))
   unfolding uncheckedOf checksOf changeChecks
   command-numbers-spelled right bits page s = (refl, refl, refl)
 

@@ -16,7 +16,7 @@ abbrev pub ownNumbers : Call → List ℕ
 ownNumbers (Access width right address) = 2 ∷ 3 ∷ 8 ∷ 9 ∷ []
 ownNumbers (Grant right page s) = 2 ∷ 4 ∷ 5 ∷ 6 ∷ 8 ∷ 11 ∷ 12 ∷ []
 ownNumbers (Revoke right page s) = 2 ∷ 4 ∷ 5 ∷ 6 ∷ 8 ∷ 11 ∷ 12 ∷ []
-ownNumbers (SetMask bits) = 6 ∷ 8 ∷ []
+ownNumbers (SetMask bits) = 6 ∷ 8 ∷ 19 ∷ []
 ownNumbers Enter = 13 ∷ []
 ownNumbers Return = 7 ∷ 14 ∷ []
 ownNumbers (Switch program) = 7 ∷ 10 ∷ 15 ∷ 16 ∷ []
@@ -34,4 +34,4 @@ listed call = 0 ∷ 1 ∷ ownNumbers call
 -- program has a table entry.
 abbrev pub soundNumbers : List ℕ
 soundNumbers =
-    0 ∷ 2 ∷ 3 ∷ 4 ∷ 5 ∷ 6 ∷ 7 ∷ 8 ∷ 9 ∷ 11 ∷ 12 ∷ 13 ∷ 14 ∷ 15 ∷ 16 ∷ 17 ∷ []
+    0 ∷ 2 ∷ 3 ∷ 4 ∷ 5 ∷ 6 ∷ 7 ∷ 8 ∷ 9 ∷ 11 ∷ 12 ∷ 13 ∷ 14 ∷ 15 ∷ 16 ∷ 17 ∷ 19 ∷ []

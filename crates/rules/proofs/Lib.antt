@@ -3,3 +3,4 @@ pub mod Bits
 pub mod Lowest
 pub mod Decided
 pub mod Pinned
+pub mod Masks

@@ -125,7 +125,7 @@ pub both-held : (one two s : ℕ) → holds (bitAnd one two) s ≡ true → (hol
 both-held one two s h = and-both (holds one s) (holds two s) (sym (held-both one two s) ∙ h)
 
 -- the lowest set digit of a set that is not empty is a domain that it holds, and it holds none of lower number
-lowest-held : (set : ℕ) → eqb set 0 ≡ false → set < 65536
+pub lowest-held : (set : ℕ) → eqb set 0 ≡ false → set < 65536
     → (trailingZeros 16 set < 16) × (holds set (trailingZeros 16 set) ≡ true) × ((s : ℕ) → s < trailingZeros 16 set → holds set s ≡ false)
 lowest-held set some small =
     let empty = eqb-false set 0 some in

@@ -11,6 +11,7 @@ use Rattle.rules.specs.Domains.{isDomain, domainBit, holds, prevailing, 
 use Rattle.rules.specs.declared.registers.Mode.{Mode}
 use Rattle.rules.specs.declared.registers.Mode.the-variants.{User, Privileged}
 use Rattle.rules.specs.declared.registers.Registers.{Registers}
+use Rattle.rules.specs.declared.registers.Masked.{Masked}
 use Rattle.rules.specs.declared.domains.Prevailing.the-variants.{Absent, At}
 
 -- the first condition that is met decides, and 0 stands for none
@@ -111,3 +112,23 @@ pub mask-commands :
     ∷ []
 unfolding maskedOf
 mask-commands = refl
+
+-- masks that are empty: the number and the whole record after it, for each mode and flag, where mask and global context fill each other's gaps, where the mask shares
+-- something with the one that it would replace, and for an empty global context. Masks that are not: of one shared domain in either byte, also where the mask before
+-- is another one or none.
+pub empty-masks :
+    let refused : ℕ → Registers → Masked = λ number r. record { number = number; registers = r } in
+    let taken : Registers → Masked = refused 0 in
+    (map (λ (r : Registers). maskedOf r 0xFF08)
+    (registers 7 3 User false ∷ registers 7 3 User true ∷ registers 7 3 Privileged false ∷ registers 7 3 Privileged true
+    ∷ registers 0x00F7 0xFF08 User false ∷ registers 0 0xFFFF User false ∷ [])
+    ≡ refused 19 (registers 7 3 User false) ∷ refused 8 (registers 7 3 User true) ∷ refused 6 (registers 7 3 Privileged false)
+    ∷ refused 6 (registers 7 3 Privileged true) ∷ refused 19 (registers 0x00F7 0xFF08 User false) ∷ refused 19 (registers 0 0xFFFF User false) ∷ [])
+    × (map (maskedOf (registers 0xFFFF 0x0101 User false)) (0 ∷ 2 ∷ 0x8000 ∷ 0xFFFF ∷ [])
+    ≡ refused 19 (registers 0xFFFF 0x0101 User false) ∷ taken (registers 0xFFFF 2 User false) ∷ taken (registers 0xFFFF 0x8000 User false)
+    ∷ taken (registers 0xFFFF 0xFFFF User false) ∷ [])
+    × (map (maskedOf (registers 0x4010 0 User false)) (0x4000 ∷ 0xBFFF ∷ 0x4FEF ∷ 0xBFEF ∷ [])
+    ≡ taken (registers 0x4010 0x4000 User false) ∷ taken (registers 0x4010 0xBFFF User false) ∷ taken (registers 0x4010 0x4FEF User false)
+    ∷ refused 19 (registers 0x4010 0 User false) ∷ [])
+unfolding maskedOf
+empty-masks = (refl, refl, refl)

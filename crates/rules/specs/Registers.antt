@@ -39,14 +39,18 @@ withMode mode r = record { context = r .context; mask = r .mask; mode = mode; pe
 abbrev pub withPending : Bool → Registers → Registers
 withPending pending r = record { context = r .context; mask = r .mask; mode = r .mode; pending = pending }
 
+-- RULES 3.8, for 19: an empty mask shares no domain with the live global context. The mask that it would replace is not asked.
+abbrev pub isEmptyMask : Registers → ℕ → Bool
+isEmptyMask r bits = eqb (bitAnd bits (r .context)) 0
+
 -- RULES 3.8: the mask command's own conditions
-abbrev pub maskChecks : Registers → List Check
-maskChecks r = (isPrivileged (r .mode) ⇒ 6) ∷ (r .pending ⇒ 8) ∷ []
+abbrev pub maskChecks : Registers → ℕ → List Check
+maskChecks r bits = (isPrivileged (r .mode) ⇒ 6) ∷ (r .pending ⇒ 8) ∷ (isEmptyMask r bits ⇒ 19) ∷ []
 
 -- RULES 2.11: the number of the mask command on a lent record, where there is no 1
-abbrev pub maskNumber : Registers → ℕ
-maskNumber r = first (maskChecks r)
+abbrev pub maskNumber : Registers → ℕ → ℕ
+maskNumber r bits = first (maskChecks r bits)
 
 -- RULES 2.11, 3.9: the mask in the record becomes the given one, every bit of it; a refusal leaves the record as it was
 unfoldable pub maskedOf : Registers → ℕ → Masked
-maskedOf r bits = record { number = maskNumber r; registers = pick (eqb (maskNumber r) 0) (withMask bits r) r }
+maskedOf r bits = record { number = maskNumber r bits; registers = pick (eqb (maskNumber r bits) 0) (withMask bits r) r }

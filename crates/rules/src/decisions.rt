@@ -66,14 +66,17 @@ pub fn change_number(
     0
 }
 
-pub fn mask_number(privileged: bool, pending: bool) -> u8
-    ensures { λ r. ⌜ r ≡ first ((privileged ⇒ 6) ∷ (pending ⇒ 8) ∷ []) ⌝ }
+pub fn mask_number(privileged: bool, pending: bool, emptymask: bool) -> u8
+    ensures { λ r. ⌜ r ≡ first ((privileged ⇒ 6) ∷ (pending ⇒ 8) ∷ (emptymask ⇒ 19) ∷ []) ⌝ }
 {
     if privileged {
         return 6;
     }
     if pending {
         return 8;
+    }
+    if emptymask {
+        return 19;
     }
     0
 }

@@ -1,15 +1,15 @@
 //! Random inputs of every sort: legal, damaged, noise, short and over-long ones.
 
-#[cfg(feature = "linked")]
+#[cfg(any(test, feature = "linked"))]
 use crate::histories::legal;
 use crate::histories::{history, legal_plan};
 use crate::random::Random;
-#[cfg(feature = "linked")]
+#[cfg(any(test, feature = "linked"))]
 use crate::run::LONGEST_INPUT;
 use crate::write::*;
 
 /// Any input, of every sort.
-#[cfg(feature = "linked")]
+#[cfg(any(test, feature = "linked"))]
 pub fn any(random: &mut Random) -> Vec<u8> {
     match random.below(200) {
         0..=139 => {
@@ -33,7 +33,7 @@ pub fn spoilt(random: &mut Random) -> Vec<u8> {
     }
 }
 
-#[cfg(feature = "linked")]
+#[cfg(any(test, feature = "linked"))]
 fn run_length(random: &mut Random) -> usize {
     match random.below(10) {
         0 => 0,
@@ -137,7 +137,7 @@ fn short(random: &mut Random) -> Vec<u8> {
 }
 
 /// A legal input of the longest length, or a few bytes below it.
-#[cfg(feature = "linked")]
+#[cfg(any(test, feature = "linked"))]
 fn full(random: &mut Random) -> Vec<u8> {
     let image = legal_plan(random).image();
     let records = history(random, &image, 5_600);
@@ -148,7 +148,7 @@ fn full(random: &mut Random) -> Vec<u8> {
     bytes
 }
 
-#[cfg(feature = "linked")]
+#[cfg(any(test, feature = "linked"))]
 fn over_long(random: &mut Random) -> Vec<u8> {
     let mut bytes = legal(random, 20);
     let more = random.between(2, 40_000);

@@ -293,10 +293,15 @@ impl Machine {
         Ok(())
     }
 
+    /// A program may not take all its domains from itself: its next access would be a violation, far
+    /// from this call, whose cause nobody sees any more (RULES 3.8). What counts is the whole global
+    /// context of now. The mask of before does not, so that domains masked out can come back, and an
+    /// empty context has no mask at all. Bits outside the context do no harm and are kept (RULES 3.9).
     pub fn mask_command(&mut self, mask: u16) -> Answer {
         self.refuse_unsound()?;
         self.refuse_in_privileged_mode()?;
         self.refuse_pending()?;
+        refuse_if(mask & self.context == 0, 19)?;
         self.mask = mask;
         Ok(())
     }
@@ -351,6 +356,7 @@ impl Machine {
         Ok(())
     }
 
+    /// The kernel may store any mask, also one that shares nothing with the context (RULES 3.20).
     pub fn store_mask(&mut self, mask: u16) -> Answer {
         self.refuse_unsound()?;
         self.refuse_in_user_mode()?;

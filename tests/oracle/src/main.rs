@@ -3,6 +3,8 @@
 mod cases;
 #[cfg(feature = "linked")]
 mod compare;
+#[cfg(any(test, feature = "linked"))]
+mod counts;
 mod histories;
 mod image;
 mod inputs;

@@ -3,6 +3,7 @@
 //! question for it (RULES 1.11, 1.16, 3.3, 3.24, 3.25), accesses of both widths (RULES 3.2, 3.3), and
 //! the domain that an access names (RULES 2.13, 3.3, 8.3). The planner has a file of its own.
 
+mod empty_masks;
 mod plans;
 
 use crate::cases::{self, many::Counts, sample};
