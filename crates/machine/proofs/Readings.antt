@@ -1,19 +1,20 @@
--- Laws that a wrong reading of the rules breaks, where the definition and the code were changed together: the mask as it was given, what a
--- switch stores, what a return leaves and that a violation sets the flag.
+-- Laws that a wrong reading of the rules breaks, where the definition and the code were changed together: the mask as it was given, by a
+-- program or by the kernel, what a switch stores, what a return leaves and that a violation sets the flag.
 use Prim.Native.Nat.{ℕ, _-_}
 use mathlib.Core.Path.{_≡_, ap, _∙_}
 use mathlib.Core.Bool.{true, false}
 use native.Mathlib.Omega.{arith}
 use lib.ListN.{length, getD, set}
 use lib.Seq.{getD-set-same, set-getD}
-use Rattle.rules.specs.Registers.{modeWhere}
+use Rattle.rules.specs.Registers.{modeWhere, withMask}
+use Rattle.rules.specs.declared.registers.Mode.the-variants.{Privileged}
 use Rattle.rules.proofs.Laws.{privileged-back}
-use Rattle.machine.specs.Machine.{noProgram, withPrograms}
-use Rattle.machine.specs.Calls.{callOf, effectOf, returned, switched, after}
+use Rattle.machine.specs.Machine.{isSound, noProgram, withRegisters, withPrograms}
+use Rattle.machine.specs.Calls.{callOf, silent, checksOf, effectOf, returned, switched, after}
 use Rattle.machine.specs.declared.record.Machine.{Machine}
 use Rattle.machine.specs.declared.record.Program.{Program}
 use Rattle.machine.specs.declared.record.Call.{Call}
-use Rattle.machine.specs.declared.record.Call.the-variants.{SetMask, Return, Switch}
+use Rattle.machine.specs.declared.record.Call.the-variants.{SetMask, Return, Switch, StoreMask}
 use Rattle.machine.proofs.Answers.{return-within, switch-within}
 
 -- an accepted call gives back its effect
@@ -26,6 +27,12 @@ pub mask-as-given : (m : Machine) (bits : ℕ) → callOf m (SetMask bits) .numb
     → callOf m (SetMask bits) .machine .registers .mask ≡ bits
 unfolding effectOf
 mask-as-given m bits n = ap (λ (end : Machine). end .registers .mask) (done-effect m (SetMask bits) n)
+
+-- RULES 3.20, 3.21: the kernel may store any mask, an empty one too
+pub any-mask-stored : (m : Machine) (bits : ℕ) → isSound m ≡ true → m .registers .mode ≡ Privileged
+    → callOf m (StoreMask bits) ≡ silent 0 (withRegisters (withMask bits (m .registers)) m)
+unfolding callOf checksOf effectOf after
+any-mask-stored m bits sound mode = rw (sound, mode)
 
 -- RULES 3.15: what a switch stores for the program that it leaves: the live global context and mask, and the mode that the interrupt saved
 abbrev stored : Machine → Program

@@ -84,5 +84,5 @@ module _ (r : Registers) (bits : ℕ) where
       not-empty done (and-comm bits (r .context) ∙ ap localContext (sym (mask-replaced r bits done)) ∙ none)
 
   -- RULES 3.8: and with an empty global context none is accepted
-  pub no-context-no-mask : r .context ≡ 0 → maskedOf r bits .number ≡ 0 → ⊥
-  no-context-no-mask none done = not-empty done (ap (bitAnd bits) none ∙ and-zero-r bits)
+  pub mask-needs-context : r .context ≡ 0 → maskedOf r bits .number ≡ 0 → ⊥
+  mask-needs-context none done = not-empty done (ap (bitAnd bits) none ∙ and-zero-r bits)

@@ -216,7 +216,8 @@ impl History<'_> {
         let record = match kind {
             1 | 13 => self.an_access(kind),
             2 | 3 => self.a_grant_or_revoke(kind),
-            4 | 9 | 10 => record(kind, 0, 0, self.pool.bits(self.random)),
+            4 => mask(self.a_mask()),
+            9 | 10 => record(kind, 0, 0, self.pool.bits(self.random)),
             5 | 6 => record(kind, 0, 0, 0),
             7 => record(kind, 0, 0, self.a_program()),
             8 => record(kind, self.a_right(), self.a_page(), self.pool.bits(self.random)),
@@ -281,6 +282,17 @@ impl History<'_> {
             1 => count as u16,
             2 => self.machine.current as u16,
             _ => self.random.below(count) as u16,
+        }
+    }
+
+    /// A mask for the mask command. Of those that share nothing with the context half get one of its
+    /// domains, if it has any: masks that are done stay the greater part, and many share just enough.
+    fn a_mask(&mut self) -> u16 {
+        let bits = self.pool.bits(self.random);
+        if bits & self.machine.context == 0 && self.random.chance(50) {
+            bits | self.one_of(self.machine.context)
+        } else {
+            bits
         }
     }
 
@@ -552,7 +564,7 @@ impl History<'_> {
         }
         self.put(return_call());
         if self.random.chance(40) {
-            let bits = self.pool.bits(self.random);
+            let bits = self.a_mask();
             self.put(mask(bits));
         }
     }
@@ -658,9 +670,13 @@ impl History<'_> {
             self.put(return_call());
         }
         if self.random.chance(40) {
-            let bits = self.pool.bits(self.random);
             // In privileged mode the kernel's store does what the command may not.
-            self.put(if self.machine.privileged() { store_mask(bits) } else { mask(bits) });
+            let record = if self.machine.privileged() {
+                store_mask(self.pool.bits(self.random))
+            } else {
+                mask(self.a_mask())
+            };
+            self.put(record);
         }
         if self.machine.privileged() && self.random.chance(30) {
             self.put(store_mode(0));
@@ -671,11 +687,17 @@ impl History<'_> {
         if bits == 0 || self.random.chance(50) {
             return !bits;
         }
-        loop {
+        self.one_of(bits)
+    }
+
+    /// One of these domains, or nothing where there is none.
+    fn one_of(&mut self, bits: u16) -> u16 {
+        while bits != 0 {
             let one = 1 << self.random.below(16);
             if bits & one != 0 {
                 return one;
             }
         }
+        0
     }
 }

@@ -468,7 +468,7 @@ fn masks(cases: &mut Cases) {
         &sample(),
         &[vec![(write(0), 9), (mask(0xFFFF), 8)], mask_is(0x0003)].concat(),
     );
-    cases.run("mask keeps bits outside the context", &sample(), &[vec![(mask(0xA508), 0)], mask_is(0xA508)].concat());
+    cases.run("mask keeps bits outside the context", &sample(), &[vec![(mask(0xA409), 0)], mask_is(0xA409)].concat());
     cases.run(
         "mask keeps bits outside the context through a switch away and back",
         &sample(),
@@ -476,17 +476,35 @@ fn masks(cases: &mut Cases) {
             .concat(),
     );
     cases.run(
-        "mask: byte order, 0x0700 leaves nothing of context 0x0007",
+        "mask: byte order, 0x0700 shares nothing with context 0x0007, 0x0402 shares domain 1 and 0x0007 all",
         &sample(),
-        &[vec![(mask(0x0700), 0), (read(0), 9)], clear_flag(), vec![(mask(0x0007), 0), (read(0), 0), (read(512), 0)]]
-            .concat(),
+        &[
+            (mask(0x0700), 19),
+            (read(0), 0),
+            (mask(0x0402), 0),
+            (write(256), 0),
+            (mask(0x0007), 0),
+            (read(0), 0),
+            (read(512), 0),
+        ],
     );
     cases.run(
         "mask: right and A are ignored",
         &sample(),
         &[vec![(record(4, 0xEE, 0xBEEF, 0x0405), 0)], mask_is(0x0405)].concat(),
     );
-    cases.run("mask 0x0000 closes everything", &sample(), &[(mask(0), 0), (grant(READ, 0, 3), 11), (read(0), 9)]);
+    cases.run(
+        "mask 0x0000 is refused from the program; from the kernel it closes everything",
+        &sample(),
+        &[
+            (mask(0), 19),
+            (entry_call(), 0),
+            (store_mask(0), 0),
+            (return_call(), 0),
+            (grant(READ, 0, 3), 11),
+            (read(0), 9),
+        ],
+    );
 }
 
 fn flag_set(cases: &mut Cases) {

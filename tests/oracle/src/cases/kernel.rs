@@ -30,13 +30,17 @@ pub fn times(count: usize, step: Step) -> Vec<Step> {
     vec![step; count]
 }
 
-/// The mask command tells the mode: 6 in privileged mode, 0 in user mode with the flag clear.
+/// The mask command tells the mode: 6 in privileged mode, 0 in user mode with the flag clear. The mask
+/// shares domains with the context of either program of the sample, and leaves each the local context
+/// that it starts with.
+const MASK_OF_EITHER: u16 = 0x000B;
+
 pub fn in_privileged_mode() -> Step {
-    (mask(0x0003), 6)
+    (mask(MASK_OF_EITHER), 6)
 }
 
 pub fn in_user_mode() -> Step {
-    (mask(0x0003), 0)
+    (mask(MASK_OF_EITHER), 0)
 }
 
 fn entry_and_return(cases: &mut Cases) {
@@ -255,12 +259,11 @@ fn switches(cases: &mut Cases) {
         ],
     );
     cases.run(
-        "switch: each program gets its own mask back",
+        "switch: each program gets its own mask back, the one from the kernel too, which leaves it nothing",
         &sample(),
         &[
             vec![(mask(0x0002), 0)],
-            turn(1),
-            vec![(mask(0x0000), 0)],
+            vec![(entry_call(), 0), (switch(1), 0), (store_mask(0x0000), 0), (return_call(), 0)],
             turn(0),
             vec![(read(256), 0), (read(0), 9)],
             turn(1),

@@ -125,8 +125,10 @@ fn three_words(cases: &mut Cases) {
                     (access(right, 40), 8, None),
                 ],
                 cleared(),
-                // No bit of the mask is in the context.
-                vec![(mask(0xF825), 0, None), (access(right, 40), 9, None)],
+                // No bit of the mask is in the context: only the kernel may store it.
+                vec![(mask(0xF825), 19, None), (access(right, 40), 0, Some(9))],
+                in_interrupt(store_mask(0xF825)),
+                vec![(access(right, 40), 9, None)],
             ]
             .concat(),
         );
@@ -237,6 +239,7 @@ fn around(cases: &mut Cases) {
                     (grant(WRITE, 0, domain), 12),
                     (revoke(READ, 1, 13), 11),
                     (mask(0xFFFF), 0),
+                    (mask(0x0FFE), 19),
                     (record(0, 0, 0, 0), 18),
                     (record(14, 0, 0, 0), 18),
                     (record(255, 1, 0, 0), 18),

@@ -370,7 +370,7 @@ fn masks(cases: &mut Cases) {
             with(0x0002, read_two(255), false),
             with(0x0001, read_two(255), false),
             with(0x0003, read_two(255), true),
-            with(0xFFF8, read_two(511), false),
+            with(0xFFF9, read_two(511), false),
             with(0xFFFA, read_two(511), false),
             with(0xFFFF, read_two(511), true),
         ]

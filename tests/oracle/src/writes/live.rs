@@ -55,8 +55,8 @@ fn registers(writes: &mut Writes) {
     );
     sample_registers(
         "two mask commands, the last one counts",
-        &[(mask(0x00FF), 0), (mask(0x1200), 0)],
-        "00 07 12 00 00",
+        &[(mask(0x00FF), 0), (mask(0x1201), 0)],
+        "00 07 12 01 00",
     );
     sample_registers("context store", &in_interrupt(&[(store_context(0x1234), 0)]), "12 34 00 03 00");
     sample_registers("mask store", &in_interrupt(&[(store_mask(0xFEDC), 0)]), "00 07 FE DC 00");
@@ -127,6 +127,7 @@ fn registers(writes: &mut Writes) {
             (grant(READ, 0, 0), 12),
             (revoke(WRITE, 0, 3), 11),
             (revoke(READ, 2, 3), 11),
+            (mask(0xFFF8), 19),
             (return_call(), 7),
             (switch(1), 7),
             (store_field(READ, 0, 0xFFFF), 7),

@@ -18,13 +18,13 @@ fn two_programs(writes: &mut Writes) {
     programs("program 1's turn and back", &[turn(1), turn(0)].concat(), SAMPLE_PROGRAMS);
     programs(
         "a mask command in each program's turn",
-        &[vec![(mask(0x0007), 0)], turn(1), vec![(mask(0x00F0), 0)], turn(0)].concat(),
-        "00 07 00 07 00  00 08 00 F0 00",
+        &[vec![(mask(0x0007), 0)], turn(1), vec![(mask(0x00F8), 0)], turn(0)].concat(),
+        "00 07 00 07 00  00 08 00 F8 00",
     );
     programs(
         "a mask command in each program's turn and one more after it: live, entry and image all differ",
-        &[vec![(mask(0x0007), 0)], turn(1), vec![(mask(0x00F0), 0)], turn(0), vec![(mask(0x0001), 0)]].concat(),
-        "00 07 00 01 00  00 08 00 F0 00",
+        &[vec![(mask(0x0007), 0)], turn(1), vec![(mask(0x00F8), 0)], turn(0), vec![(mask(0x0001), 0)]].concat(),
+        "00 07 00 01 00  00 08 00 F8 00",
     );
     programs("away and back in one interrupt", &in_interrupt(&[(switch(1), 0), (switch(0), 0)]), SAMPLE_PROGRAMS);
     programs(
@@ -124,13 +124,13 @@ fn more_programs(writes: &mut Writes) {
         "three programs, a mask command in each turn",
         50,
         &three,
-        &[turn(2), vec![(mask(0x1122), 0)], turn(1), vec![(mask(0x3344), 0)], turn(0), vec![(mask(0x5566), 0)]]
+        &[turn(2), vec![(mask(0x1122), 0)], turn(1), vec![(mask(0x334C), 0)], turn(0), vec![(mask(0x5566), 0)]]
             .concat(),
         49,
         &[
             (0, "01 00 00 12 00 04  02 00 00 16 00 0C  03 00 00 22 00 0F  03 08 03 00"),
             (22, SAMPLE_PAGES),
-            (34, "00 07 55 66 00  00 08 33 44 00  0C 30 11 22 00  EE"),
+            (34, "00 07 55 66 00  00 08 33 4C 00  0C 30 11 22 00  EE"),
         ],
     );
     let eight = Plan { exponent: 5, pages: vec![(0x1234, 0xFEDC)], programs: eight_programs() };
