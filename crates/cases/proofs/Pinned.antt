@@ -41,8 +41,8 @@ small depth mask mode = whole 1 5 (1 ∷ 0 ∷ []) (live 1 mask mode false) dept
 pub calls-followed :
     let m = small 0 1 User in
     (machineAfter m [] ≡ m)
-    × (machineAfter m (Known (SetMask 6) ∷ Unknown ∷ Known Enter ∷ []) ≡ small 1 6 Privileged)
-    × (machineAfter m (Known Enter ∷ Known (SetMask 6) ∷ []) ≡ small 1 1 Privileged)
+    × (machineAfter m (Known (SetMask 7) ∷ Unknown ∷ Known Enter ∷ []) ≡ small 1 7 Privileged)
+    × (machineAfter m (Known Enter ∷ Known (SetMask 7) ∷ []) ≡ small 1 1 Privileged)
 unfolding machineAfter stepBy callOf checksOf effectOf entered after isSound
 calls-followed = (refl, refl, refl)
 

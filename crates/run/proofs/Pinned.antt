@@ -69,16 +69,17 @@ small depth mask mode pending saved = whole 1 5 (1 ∷ 0 ∷ []) (live 1 mask mo
 pub steps-made :
     let m = small 0 1 User false (false ∷ []) in
     let deep = small 9 1 User false (false ∷ []) in
-    (map (stepOf m) (Unknown ∷ Known (SetMask 6) ∷ Known (Access One 1 0) ∷ Known Enter ∷ Known Return ∷ [])
+    (map (stepOf m) (Unknown ∷ Known (SetMask 7) ∷ Known (SetMask 6) ∷ Known (Access One 1 0) ∷ Known Enter ∷ Known Return ∷ [])
     ≡ gives 18 m
-    ∷ gives 0 (small 0 6 User false (false ∷ []))
+    ∷ gives 0 (small 0 7 User false (false ∷ []))
+    ∷ gives 19 m
     ∷ gives 9 (withLast (denied 0 1 0) (small 0 1 User true (false ∷ [])))
     ∷ gives 0 (small 1 1 Privileged false (false ∷ []))
     ∷ gives 7 m
     ∷ [])
-    × (map (stepOf deep) (Unknown ∷ Known (SetMask 6) ∷ Known Enter ∷ []) ≡ gives 18 deep ∷ gives 1 deep ∷ gives 1 deep ∷ [])
-    × (map (uncheckedStepOf deep) (Unknown ∷ Known (SetMask 6) ∷ Known Enter ∷ [])
-    ≡ gives 18 deep ∷ gives 0 (small 9 6 User false (false ∷ [])) ∷ gives 13 deep ∷ [])
+    × (map (stepOf deep) (Unknown ∷ Known (SetMask 7) ∷ Known Enter ∷ []) ≡ gives 18 deep ∷ gives 1 deep ∷ gives 1 deep ∷ [])
+    × (map (uncheckedStepOf deep) (Unknown ∷ Known (SetMask 7) ∷ Known (SetMask 6) ∷ Known Enter ∷ [])
+    ≡ gives 18 deep ∷ gives 0 (small 9 7 User false (false ∷ [])) ∷ gives 19 deep ∷ gives 13 deep ∷ [])
 unfolding stepBy callOf uncheckedOf checksOf accessChecks effectOf entered after isSound
 steps-made = (refl, refl, refl)
 

@@ -7,6 +7,7 @@
 //! So no case has answer 1, or answer 10, which waits behind 1.
 
 mod commands;
+mod empty_masks;
 mod kernel;
 mod lengths;
 mod loader;
@@ -106,6 +107,7 @@ pub fn all() -> Vec<Case> {
     questions::add(&mut cases);
     two_bytes::add(&mut cases);
     named::add(&mut cases);
+    empty_masks::add(&mut cases);
     loader::add(&mut cases);
     lengths::add(&mut cases);
     for seed in 1..=12 {

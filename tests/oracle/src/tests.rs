@@ -7,6 +7,7 @@ mod empty_masks;
 mod plans;
 
 use crate::cases::{self, many::Counts, sample};
+use crate::counts::{CAN_OCCUR, LOAD_CAN_OCCUR};
 use crate::histories::{legal, legal_plan, naming};
 use crate::image::load;
 use crate::machine::{prevailing, Domain, Fields, Machine, Mode, Page, Program, Violation, Width, READ, WRITE};
@@ -221,26 +222,10 @@ fn the_stored_cases_reach_every_answer_that_can_occur() {
             reached.insert((if record[0] <= LAST_KIND { record[0] } else { 0 }, *answer));
         }
     }
-    let can_occur: [(u8, &[u8]); 14] = [
-        (0, &[18]),
-        (1, &[0, 2, 3, 8, 9]),
-        (2, &[0, 2, 4, 5, 6, 8, 11, 12]),
-        (3, &[0, 2, 4, 5, 6, 8, 11, 12]),
-        (4, &[0, 6, 8, 19]),
-        (5, &[0, 13]),
-        (6, &[0, 7, 14]),
-        (7, &[0, 7, 15, 16]),
-        (8, &[0, 2, 4, 7]),
-        (9, &[0, 7]),
-        (10, &[0, 7]),
-        (11, &[0, 7, 17]),
-        (12, &[0, 7]),
-        (13, &[0, 2, 3, 8, 9]),
-    ];
     let expected: BTreeSet<(u8, u8)> =
-        can_occur.iter().flat_map(|(kind, list)| list.iter().map(|answer| (*kind, *answer))).collect();
+        (0..).zip(CAN_OCCUR).flat_map(|(kind, (_, list))| list.iter().map(move |answer| (kind, *answer))).collect();
     assert_eq!(reached, expected);
-    assert_eq!(load_reached, BTreeSet::from([0, 20, 21, 22, 23, 24, 25]));
+    assert_eq!(load_reached, LOAD_CAN_OCCUR.1.iter().copied().collect());
 }
 
 #[test]
@@ -423,6 +408,7 @@ writes-random: the writer answered 27 0 times, fewer than 20
 writes-random: a question gave `denied` 0 times, fewer than 20
 writes-random: a question gave `none` 0 times, fewer than 20
 writes-random: an access named a domain 0 times, fewer than 20
+writes-random: a mask command answered 19 0 times, fewer than 20
 "
     );
 }
@@ -945,10 +931,11 @@ fn random_runs_name_every_domain_in_a_short_file() {
         "runs-random: domain 15 was named 0 times, fewer than 20
 runs-random: two pages gave, the first through a higher domain, 0 times, fewer than 20
 runs-random: two pages gave, the second through a higher domain, 0 times, fewer than 20
+runs-random: a mask command answered 19 0 times, fewer than 20
 "
     ));
-    assert_eq!(rare.lines().count(), 18);
-    let enough = Counts { named: [20; 16], apart: [20; 2] };
+    assert_eq!(rare.lines().count(), 19);
+    let enough = Counts { named: [20; 16], apart: [20; 2], empty: 20 };
     assert_eq!(enough.rare(), "");
     let mut few = enough;
     few.named[7] = 19;

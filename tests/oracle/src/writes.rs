@@ -3,6 +3,7 @@
 //! violation, the writer's number and count, and bytes of the buffer, all of them or those that
 //! matter. Some also say which domain each call names.
 
+mod empty_masks;
 mod inputs;
 mod live;
 pub mod many;
@@ -237,6 +238,7 @@ pub fn all() -> Vec<Case> {
     questions::add(&mut writes);
     two_bytes::add(&mut writes);
     named::add(&mut writes);
+    empty_masks::add(&mut writes);
     for seed in 1..=8 {
         let bytes = many::case(&mut Random::new(seed));
         writes.list.push(Case { purpose: format!("a random case, seed {seed}"), bytes, due: None });

@@ -10,7 +10,7 @@ use crate::sorts::givers;
 use crate::stored;
 
 /// From so many runs on, each domain must have been named often, and accesses of two bytes whose
-/// pages give through different domains must have come often.
+/// pages give through different domains and empty masks must have come often.
 const ENOUGH_RUNS: u64 = 300;
 /// What came fewer times than this was not tried well.
 const LEAST: usize = 20;
@@ -49,6 +49,8 @@ pub struct Counts {
     /// Accesses of two bytes across an edge that were given through different domains: by the first
     /// page through the one of higher level, and by the second.
     pub apart: [usize; 2],
+    /// Mask commands with an empty mask: the accesses after them name what the mask before left.
+    pub empty: usize,
 }
 
 impl Counts {
@@ -61,9 +63,11 @@ impl Counts {
             if let Some((first, second)) = givers(&machine, record).filter(|(first, second)| first != second) {
                 self.apart[usize::from(second.0 < first.0)] += 1;
             }
-            if let Some(domain) = step(&mut machine, record).named() {
+            let outcome = step(&mut machine, record);
+            if let Some(domain) = outcome.named() {
                 self.named[usize::from(domain.0)] += 1;
             }
+            self.empty += usize::from(outcome.number() == 19);
         }
     }
 
@@ -73,7 +77,8 @@ impl Counts {
         let apart = ["first", "second"].into_iter().zip(self.apart);
         let apart =
             apart.map(|(which, times)| (format!("two pages gave, the {which} through a higher domain,"), times));
-        let rare = named.chain(apart).filter(|(_, times)| *times < LEAST);
+        let empty = [(String::from("a mask command answered 19"), self.empty)];
+        let rare = named.chain(apart).chain(empty).filter(|(_, times)| *times < LEAST);
         rare.map(|(what, times)| format!("runs-random: {what} {times} times, fewer than {LEAST}\n")).collect()
     }
 }

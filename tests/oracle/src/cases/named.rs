@@ -23,11 +23,11 @@ pub fn add(cases: &mut Cases) {
     remainder(cases);
 }
 
-fn cleared() -> Vec<NamedStep> {
+pub fn cleared() -> Vec<NamedStep> {
     naming_none(&clear_flag())
 }
 
-fn turn_of(program: u16) -> Vec<NamedStep> {
+pub fn turn_of(program: u16) -> Vec<NamedStep> {
     naming_none(&turn(program))
 }
 
@@ -397,7 +397,7 @@ fn own_commands(cases: &mut Cases) {
     );
 }
 
-fn in_interrupt(call: Record) -> Vec<NamedStep> {
+pub fn in_interrupt(call: Record) -> Vec<NamedStep> {
     vec![(entry_call(), 0, None), (call, 0, None), (return_call(), 0, None)]
 }
 

@@ -9,7 +9,7 @@ use crate::stored;
 use crate::write::*;
 
 /// From so many cases on, each of the writer's numbers, both sorts of lines that a question
-/// prints and accesses that name a domain must have come often.
+/// prints, accesses that name a domain and empty masks must have come often.
 const ENOUGH_RUNS: u64 = 400;
 /// What came fewer times than this was not tried well.
 const LEAST: usize = 20;
@@ -34,7 +34,7 @@ pub fn file(seed: u64, runs: u64) -> Result<Vec<u8>, String> {
 /// What came too rarely in these rounds, a line for each.
 pub fn rare(rounds: impl Iterator<Item = Round>) -> String {
     let mut written = NUMBERS.map(|number| (number, 0));
-    let (mut denied, mut none, mut named) = (0, 0, 0);
+    let (mut denied, mut none, mut named, mut empty) = (0, 0, 0, 0);
     for round in rounds {
         for (number, times) in &mut written {
             *times += usize::from(round.written.number == *number);
@@ -44,12 +44,14 @@ pub fn rare(rounds: impl Iterator<Item = Round>) -> String {
         none += of_none;
         denied += lines.len() - of_none;
         named += round.named().iter().flatten().count();
+        empty += round.numbers().iter().filter(|&&number| number == 19).count();
     }
     let answers = written.map(|(number, times)| (format!("the writer answered {number}"), times));
     let hand_outs =
         [("denied", denied), ("none", none)].map(|(line, times)| (format!("a question gave `{line}`"), times));
-    let named = [(String::from("an access named a domain"), named)];
-    let rare = answers.into_iter().chain(hand_outs).chain(named).filter(|(_, times)| *times < LEAST);
+    let calls = [("an access named a domain", named), ("a mask command answered 19", empty)]
+        .map(|(what, times)| (what.to_string(), times));
+    let rare = answers.into_iter().chain(hand_outs).chain(calls).filter(|(_, times)| *times < LEAST);
     rare.map(|(what, times)| format!("writes-random: {what} {times} times, fewer than {LEAST}\n")).collect()
 }
 

@@ -647,7 +647,6 @@ fn user_refusals() -> Vec<Step> {
         (revoke(WRITE, 2, 5), 11),
         (revoke(WRITE, 1, 1), 12),
         (mask(0xFFF8), 19),
-        (mask(0), 19),
         (return_call(), 7),
         (switch(1), 7),
         (store_field(2, 0, 1), 2),
