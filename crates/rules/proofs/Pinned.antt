@@ -127,8 +127,8 @@ pub empty-masks :
     × (map (maskedOf (registers 0xFFFF 0x0101 User false)) (0 ∷ 2 ∷ 0x8000 ∷ 0xFFFF ∷ [])
     ≡ refused 19 (registers 0xFFFF 0x0101 User false) ∷ taken (registers 0xFFFF 2 User false) ∷ taken (registers 0xFFFF 0x8000 User false)
     ∷ taken (registers 0xFFFF 0xFFFF User false) ∷ [])
-    × (map (maskedOf (registers 0x4010 0 User false)) (0x4000 ∷ 0xBFFF ∷ 0x4FEF ∷ 0xBFEF ∷ [])
-    ≡ taken (registers 0x4010 0x4000 User false) ∷ taken (registers 0x4010 0xBFFF User false) ∷ taken (registers 0x4010 0x4FEF User false)
-    ∷ refused 19 (registers 0x4010 0 User false) ∷ [])
+    × (map (maskedOf (registers 0x4081 0 User false)) (1 ∷ 0x4000 ∷ 0xBFFE ∷ 0x7F7E ∷ 0xBF7E ∷ [])
+    ≡ taken (registers 0x4081 1 User false) ∷ taken (registers 0x4081 0x4000 User false) ∷ taken (registers 0x4081 0xBFFE User false)
+    ∷ taken (registers 0x4081 0x7F7E User false) ∷ refused 19 (registers 0x4081 0 User false) ∷ [])
 unfolding maskedOf
 empty-masks = (refl, refl, refl)

@@ -671,11 +671,8 @@ impl History<'_> {
         }
         if self.random.chance(40) {
             // In privileged mode the kernel's store does what the command may not.
-            let record = if self.machine.privileged() {
-                store_mask(self.pool.bits(self.random))
-            } else {
-                mask(self.a_mask())
-            };
+            let record =
+                if self.machine.privileged() { store_mask(self.pool.bits(self.random)) } else { mask(self.a_mask()) };
             self.put(record);
         }
         if self.machine.privileged() && self.random.chance(30) {

@@ -356,7 +356,7 @@ impl Machine {
         Ok(())
     }
 
-    /// The kernel may store any mask, also one that shares nothing with the context (RULES 3.20).
+    /// The kernel may store any mask, also one that shares nothing with the context (RULES 3.20, 3.21).
     pub fn store_mask(&mut self, mask: u16) -> Answer {
         self.refuse_unsound()?;
         self.refuse_in_user_mode()?;

@@ -48,7 +48,7 @@ impl Round {
         handed_out.map(line).collect()
     }
 
-    fn text(&self) -> String {
+    pub fn text(&self) -> String {
         let mut text = format!("load {}\n", self.load);
         for (before, call) in self.calls.iter().enumerate() {
             text += &call.line(before);

@@ -1,5 +1,5 @@
 //! The mask command refuses a mask that shares nothing with the live global context, after 6 and 8
-//! (RULES 3.8), and nothing else refuses one (RULES 3.20). The third part of a step is the domain that
+//! (RULES 3.8), and nothing else refuses one (RULES 3.20, 3.21). The third part of a step is the domain that
 //! it names, by which an access shows the mask that a refusal left.
 //!
 //! The words are chosen so that other readings answer otherwise: another word asked than the context

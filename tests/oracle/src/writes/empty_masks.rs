@@ -1,5 +1,5 @@
 //! Masks that share nothing with the context: what a refused mask command leaves is what is written,
-//! and an image can hold such a mask again (RULES 3.8, 3.20).
+//! and an image can hold such a mask again (RULES 3.8, 3.20, 3.21).
 
 use super::live::in_interrupt;
 use super::questions::ask;
