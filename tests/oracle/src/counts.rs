@@ -11,7 +11,7 @@ const LEAST: u64 = 20;
 /// A row for each kind that is a call; row 0 is for unknown kinds.
 const ROWS: usize = run::LAST_KIND as usize + 1;
 
-/// Which answers can occur in a run for each kind.
+/// Which of the numbers (RULES 9.1) can occur in a run for each kind.
 /// A loaded machine is sound and stays so, so 1 and 10 cannot.
 pub const CAN_OCCUR: [(&str, &[u8]); ROWS] = [
     ("unknown kind", &[18]),
@@ -105,7 +105,7 @@ impl Table {
         vec![
             ("access of two bytes across an edge", SORTS.into_iter().zip(self.across).collect()),
             ("mask command", MASK_SORTS.into_iter().zip(self.masks).collect()),
-            ("access denied by a local context that was emptied by", WAYS.into_iter().zip(self.emptied).collect()),
+            ("access denied by an empty local context", WAYS.into_iter().zip(self.emptied).collect()),
         ]
     }
 

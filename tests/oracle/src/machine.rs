@@ -293,10 +293,10 @@ impl Machine {
         Ok(())
     }
 
-    /// A program may not take all its domains from itself: its next access would be a violation, far
-    /// from this call, whose cause nobody sees any more (RULES 3.8). What counts is the whole global
-    /// context of now. The mask of before does not, so that domains masked out can come back, and an
-    /// empty context has no mask at all. Bits outside the context do no harm and are kept (RULES 3.9).
+    /// A program may not take all its domains from itself: the mistake would show only later, where it
+    /// wants to access something (RULES 3.8). What counts is the whole global context of now. The mask
+    /// before does not, so that domains that were masked out can come back. With an empty context every
+    /// mask is refused. Bits outside the context do no harm and are kept (RULES 3.9).
     pub fn mask_command(&mut self, mask: u16) -> Answer {
         self.refuse_unsound()?;
         self.refuse_in_privileged_mode()?;
@@ -356,7 +356,8 @@ impl Machine {
         Ok(())
     }
 
-    /// The kernel may store any mask, also one that shares nothing with the context (RULES 3.20, 3.21).
+    /// The kernel knows what it does: a mask that shares nothing with the context is stored like any
+    /// other (RULES 3.20, 3.21).
     pub fn store_mask(&mut self, mask: u16) -> Answer {
         self.refuse_unsound()?;
         self.refuse_in_user_mode()?;

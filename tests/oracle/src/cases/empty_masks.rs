@@ -1,6 +1,6 @@
 //! The mask command refuses a mask that shares nothing with the live global context, after 6 and 8
-//! (RULES 3.8), and nothing else refuses one (RULES 3.20, 3.21). The third part of a step is the domain that
-//! it names, by which an access shows the mask that a refusal left.
+//! (RULES 3.8), and nothing else refuses one (RULES 3.20, 3.21). The third part of a step is the
+//! domain that it names, by which an access shows the mask that a refusal left.
 //!
 //! The words are chosen so that other readings answer otherwise: another word asked than the context
 //! of now, such as the mask before, the table's context or another program's; another condition than
