@@ -37,11 +37,11 @@
  *   and 1 for privileged. A loaded machine runs program 0.
  *
  * THE ANSWERS are bytes, first the load's, then each call's in turn. They are
- * the BENCH_ANSWER_.. constants below: a call has one of 0 to 18, the load has
- * 0 or one of 20 to 25, and nothing has 19. 1 and 10 do not occur in a run: a
- * loaded machine is sound, its current program has an entry, and every call
- * leaves it so. 26 and 27 are given by the writer of images alone, and 30 to 32
- * by the planner of contexts; a run calls neither (docs/RULES.md, 5.15, 11.4).
+ * the BENCH_ANSWER_.. constants below: a call has one of 0 to 19, the load has
+ * 0 or one of 20 to 25. 1 and 10 do not occur in a run: a loaded machine is
+ * sound, its current program has an entry, and every call leaves it so. 26 and
+ * 27 are given by the writer of images alone, and 30 to 32 by the planner of
+ * contexts; a run calls neither (docs/RULES.md, 5.15, 11.4).
  *
  * HOW MANY ANSWERS an input of n bytes has:
  *
@@ -91,8 +91,11 @@
  *
  * From 2.0 on an access of two bytes is presented by kind 13. Kind 1 asks for
  * one byte alone; before, the first byte's page decided for both.
+ *
+ * From 3.0 on a mask command whose mask shares no domain with the live global
+ * context is refused, with 19; before, it was accepted.
  */
-#define BENCH_VERSION_MAJOR 2
+#define BENCH_VERSION_MAJOR 3
 #define BENCH_VERSION_MINOR 0
 
 /* The longest input that is taken, in bytes. */
@@ -142,7 +145,8 @@ enum {
     BENCH_KIND_GRANT = 2,
     /* revoke the right to page A from domain B */
     BENCH_KIND_REVOKE = 3,
-    /* mask command: the mask becomes B */
+    /* mask command: the mask becomes B, which must share a domain with the
+       live global context */
     BENCH_KIND_MASK = 4,
     /* interrupt entry */
     BENCH_KIND_ENTRY = 5,
@@ -154,7 +158,7 @@ enum {
     BENCH_KIND_STORE_FIELD = 8,
     /* kernel store: the global context becomes B */
     BENCH_KIND_STORE_CONTEXT = 9,
-    /* kernel store: the mask becomes B */
+    /* kernel store: the mask becomes B, whatever the global context is */
     BENCH_KIND_STORE_MASK = 10,
     /* kernel store: the mode becomes B, a BENCH_MODE_.. */
     BENCH_KIND_STORE_MODE = 11,
@@ -215,6 +219,9 @@ enum {
     BENCH_ANSWER_BAD_MODE = 17,
     /* the record is of no kind listed above */
     BENCH_ANSWER_BAD_KIND = 18,
+    /* mask command: the mask and the live global context share no domain; the
+       mask before stays */
+    BENCH_ANSWER_EMPTY_MASK = 19,
 
     /* The image is refused. */
 

@@ -22,8 +22,8 @@ fn show(number: u64) {
     io::write_all(STDOUT_FILENO, b" ");
 }
 
-fn try_mask(mode: Mode, pending: bool, mask: u16) {
-    let mut registers = Registers { context: 7, mask: 3, mode, pending };
+fn try_mask(context: u16, mode: Mode, pending: bool, mask: u16) {
+    let mut registers = Registers { context, mask: 3, mode, pending };
     show(set_mask_lent(&mut registers, mask) as u64);
     show(registers.context as u64);
     show(registers.mask as u64);
@@ -33,13 +33,26 @@ fn try_mask(mode: Mode, pending: bool, mask: u16) {
 }
 
 fn main() {
-    try_mask(Mode::User, false, 65528);
-    try_mask(Mode::User, true, 65528);
-    try_mask(Mode::Privileged, false, 65528);
-    try_mask(Mode::Privileged, true, 65528);
+    try_mask(7, Mode::User, false, 65532);
+    try_mask(7, Mode::User, true, 65532);
+    try_mask(7, Mode::Privileged, false, 65532);
+    try_mask(7, Mode::Privileged, true, 65532);
+    try_mask(7, Mode::User, false, 65528);
+    try_mask(7, Mode::User, true, 65528);
+    try_mask(7, Mode::Privileged, false, 65528);
+    try_mask(7, Mode::Privileged, true, 65528);
+    try_mask(7, Mode::User, false, 0);
+    try_mask(4, Mode::User, false, 3);
+    try_mask(0, Mode::User, false, 65535);
+    try_mask(33024, Mode::User, false, 32768);
+    try_mask(33024, Mode::User, false, 32511);
 }
 RT
-# number, global context, mask, mode, flag: done, with bits outside the context; 8; 6; 6 before 8
-printf '0 7 65528 0 0 \n8 7 3 0 1 \n6 7 3 1 0 \n6 7 3 1 1 \n' >"$room/crates/lent/stdout"
+# Number, global context, mask, mode, flag. A mask that shares domain 2 with the context, with bits outside it: done; 8; 6; 6 before 8.
+printf '0 7 65532 0 0 \n8 7 3 0 1 \n6 7 3 1 0 \n6 7 3 1 1 \n' >"$room/crates/lent/stdout"
+# An empty one: 19; 8 before it; 6 before it; 6 before both.
+printf '19 7 3 0 0 \n8 7 3 0 1 \n6 7 3 1 0 \n6 7 3 1 1 \n' >>"$room/crates/lent/stdout"
+# Mask 0; a mask that shares domains with the one before alone; any mask where the context is empty; domain 15 of a context of 8 and 15; all but these two of it.
+printf '19 7 3 0 0 \n19 4 3 0 0 \n19 0 3 0 0 \n0 33024 32768 0 0 \n19 33024 3 0 0 \n' >>"$room/crates/lent/stdout"
 cd "$room"
 rt try lent

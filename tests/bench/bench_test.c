@@ -191,6 +191,35 @@ static const struct text_case text_cases[] = {
      "02 00 00 00 00 08  02 00 00 00 00 09  02 01 00 00 00 0F "
      "03 01 00 00 00 0E" MASK("01 00") WRITE_PAGE("00") "02 00 00 00 00 0A",
      "0 0 0 3 12 0 12 12 0 9 8"},
+
+    /* Empty masks: they share no domain with the live global context, which is
+       0007 for program 0 and 0008 for program 1. */
+    {"an empty mask is refused, and the one before stays",
+     SAMPLE MASK("00 00") MASK("00 08") MASK("FF F8") READ_PAGE("00")
+     READ_PAGE("01") MASK("FF FC") READ_PAGE("02") READ_PAGE("01"),
+     "0 19 19 19 0 0 0 0 9"},
+    {"an empty mask with the flag set, and in privileged mode",
+     SAMPLE READ_PAGE("02") MASK("00 00") ENTRY MASK("00 00") RETURN
+     MASK("00 00") MASK("00 04") READ_PAGE("02"), "0 9 8 0 6 0 19 0 0"},
+    {"the mask before is not asked",
+     SAMPLE MASK("00 04") MASK("00 03") MASK("FF F9") MASK("FF F0")
+     READ_PAGE("00") READ_PAGE("01"), "0 0 0 0 19 0 9"},
+    {"the live global context is asked, and an empty one lets no mask in",
+     SAMPLE ENTRY "09 00 00 00 00 08" RETURN MASK("00 07") MASK("00 08")
+     READ_PAGE("02") ENTRY "09 00 00 00 00 00" RETURN MASK("FF FF")
+     MASK("00 00"), "0 0 0 0 19 0 0 0 0 0 19 19"},
+    {"the kernel may store an empty mask, and a switch brings it back",
+     SAMPLE ENTRY "0A 00 00 00 00 08" RETURN READ_PAGE("00") ENTRY
+     "0A 00 00 00 00 00" SWITCH_TO("01") RETURN MASK("00 07") READ_PAGE("02")
+     TURN_OF("00") MASK("00 08") READ_PAGE("00"),
+     "0 0 0 0 9 0 0 0 0 19 0 0 0 0 19 9"},
+    {"an image may hold empty masks",
+     "00 2C " SAMPLE_TABLE "03 08 02 00 " SAMPLE_PAGES
+     "00 07 00 08 00  00 08 00 00 00 " MASK("00 08") MASK("00 01")
+     READ_PAGE("00") TURN_OF("01") READ_PAGE("02"), "0 19 0 0 0 0 0 9"},
+    {"empty masks in high bytes",
+     SHORTEST MASK("00 FF") MASK("7E FF") WRITE_PAGE("00") MASK("80 00")
+     MASK("01 00") READ_PAGE("00") WRITE_PAGE("00"), "0 19 19 0 0 0 0 9"},
     {"unused parts are ignored",
      SAMPLE "04 FF FF FF 00 07  05 FF FF FF FF FF  07 FF FF FF 00 00 "
      "09 FF FF FF 00 07  0A FF FF FF 00 07  0B FF FF FF 00 01 "
@@ -249,7 +278,7 @@ static const struct text_case text_cases[] = {
     {"two bytes, the second page denies alone",
      SAMPLE WRITE_TWO("01 FE") WRITE_TWO("01 FF"), "0 0 9"},
     {"two bytes, both pages deny",
-     SAMPLE MASK("00 00") READ_TWO("00 FF"), "0 0 9"},
+     SAMPLE MASK("00 04") READ_TWO("00 FF"), "0 0 9"},
     {"two bytes about the end of memory and of the addresses",
      SAMPLE READ_TWO("02 FF") READ_TWO("03 00") "0D 00 FF FF FF FE "
      "0D 01 FF FF FF FF" READ_TWO("02 FE"), "0 3 3 3 3 9"},
@@ -809,6 +838,7 @@ static void check_constants(void)
         BENCH_ANSWER_NOT_LOWER, BENCH_ANSWER_STACK_FULL,
         BENCH_ANSWER_STACK_EMPTY, BENCH_ANSWER_DEPTH_NOT_ONE,
         BENCH_ANSWER_NO_PROGRAM, BENCH_ANSWER_BAD_MODE, BENCH_ANSWER_BAD_KIND,
+        BENCH_ANSWER_EMPTY_MASK,
     };
     static const int refused[] = {
         BENCH_ANSWER_IMAGE_LENGTH, BENCH_ANSWER_IMAGE_KIND,
@@ -817,7 +847,7 @@ static void check_constants(void)
     };
     for (int i = 0; i < 13; i++)
         check(kinds[i] == 1 + i, "kind %d is %d in bench.h", 1 + i, kinds[i]);
-    for (int i = 0; i < 19; i++)
+    for (int i = 0; i < 20; i++)
         check(answers[i] == i, "answer %d is %d in bench.h", i, answers[i]);
     for (int i = 0; i < 6; i++)
         check(refused[i] == 20 + i, "answer %d is %d in bench.h", 20 + i,

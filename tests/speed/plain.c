@@ -49,6 +49,7 @@ enum {
     BAD_PROGRAM = 16,
     BAD_MODE = 17,
     NOT_A_CALL = 18,
+    EMPTY_MASK = 19,
     BAD_IMAGE_LENGTH = 20,
     BAD_ENTRY = 21,
     BAD_SHAPE_PLACE = 22,
@@ -223,6 +224,8 @@ static uint8_t machine_mask(struct machine *m, uint16_t mask)
         return IN_PRIVILEGED_MODE;
     if (m->pending)
         return IS_PENDING;
+    if ((mask & m->context) == 0)
+        return EMPTY_MASK;
     m->mask = mask;
     return DONE;
 }

@@ -204,11 +204,12 @@ static void build_grant(struct input *in)
     }
 }
 
+/* Masks with domain 0, which program 0's global context has. */
 static void build_mask(struct input *in)
 {
     put_image(in, false);
     while (has_room(in))
-        put_call(in, MASK_COMMAND, 0, 0, below(0x10000));
+        put_call(in, MASK_COMMAND, 0, 0, below(0x10000) | 1);
 }
 
 static void build_entry(struct input *in)

@@ -689,12 +689,14 @@ impl History<'_> {
 
     /// One of these domains, or nothing where there is none.
     fn one_of(&mut self, bits: u16) -> u16 {
-        while bits != 0 {
+        if bits == 0 {
+            return 0;
+        }
+        loop {
             let one = 1 << self.random.below(16);
             if bits & one != 0 {
                 return one;
             }
         }
-        0
     }
 }
