@@ -85,7 +85,7 @@ pub fn mask_sorts(machine: &Machine, record: &[u8]) -> [bool; MASK_SORTS.len()] 
 }
 
 /// What can leave a program an empty local context: an image, and the kinds 7, 9 and 10. The mask
-/// command no longer can.
+/// command cannot.
 #[cfg(any(test, feature = "linked"))]
 pub const WAYS: [&str; 4] =
     ["as in the image", "emptied by a switch", "emptied by the context store", "emptied by the mask store"];
