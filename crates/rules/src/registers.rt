@@ -119,7 +119,11 @@ impl Registers {
 pub fn replace_mask(registers: Registers, mask: u16) -> Masked
     ensures { λ r. ⌜ r ≡ maskedOf registers mask ⌝ }
 {
-    let number = mask_number(registers.privileged(), registers.pending, mask & registers.context == 0);
+    let number = mask_number(
+        registers.privileged(),
+        registers.pending,
+        mask & registers.context == 0,
+    );
     let after = registers.or_where(number == 0, registers.with_mask(mask));
     Masked {
         number,
