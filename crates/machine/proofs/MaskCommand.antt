@@ -1,5 +1,5 @@
 -- The mask command on the register record and the one on the machine do the same to a sound machine's registers, by cases over
--- the mode, the flag, the mask and soundness; so what the record's numbers are due to, the machine's are.
+-- the mode, the flag, the mask and soundness. So what is shown of the numbers on the record holds of those on the machine.
 use Prim.Native.Nat.{ℕ, _<_}
 use mathlib.Core.Path.{_≡_, refl, sym, ap, _∙_}
 use mathlib.Core.Bool.{Bool, true, false}

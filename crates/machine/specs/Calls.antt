@@ -92,7 +92,7 @@ checksOf m (Access width right address) = accessChecks m right (touched width ad
 -- RULES 3.4, 3.6: grant and revoke, which refuse the same
 checksOf m (Grant right page s) = changeChecks m right page s (prevailing (fieldOf m right (page .0)))
 checksOf m (Revoke right page s) = changeChecks m right page s (prevailing (fieldOf m right (page .0)))
--- RULES 3.8: the mask command, which looks at the live registers alone
+-- RULES 3.8: the mask command, which looks at its mask and at the live registers alone
 checksOf m (SetMask bits) = maskChecks (m .registers) bits
 -- RULES 3.10: interrupt entry, where all places of the stack are taken
 checksOf m Enter = (not (ltb (m .depth) 8) ⇒ 13) ∷ []

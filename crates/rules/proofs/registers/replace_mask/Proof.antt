@@ -1,4 +1,4 @@
--- `replace_mask` meets its contract: the number comes from the mode and the flag, and the number chooses the record.
+-- `replace_mask` meets its contract: the number comes from the mode, the flag and the mask, and the number chooses the record.
 use borrow.Author.Needs.{needs}
 use Rattle.rules.specs.Registers.{maskedOf}
 use Rattle.rules.proofs.registers.replace_mask.Statement.{statement}
