@@ -84,7 +84,7 @@ module _ (m : Machine) (bits : ℕ) where
   pub set-mask-needs-context : m .registers .context ≡ 0 → answer .number ≡ 0 → ⊥
   set-mask-needs-context none done = mask-needs-context (m .registers) bits none (on-registers done .1)
 
--- RULES 3.8: of the machine the mask command looks at soundness, the global context, the mode and the flag, and at nothing else
+-- RULES 3.8: for its number the mask command looks at soundness, the global context, the mode and the flag of the machine, and at nothing else of it
 pub own-context-asked : (m other : Machine) (bits : ℕ) → isSound m ≡ isSound other → m .registers .context ≡ other .registers .context
     → m .registers .mode ≡ other .registers .mode → m .registers .pending ≡ other .registers .pending
     → callOf m (SetMask bits) .number ≡ callOf other (SetMask bits) .number

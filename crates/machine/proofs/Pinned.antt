@@ -3,7 +3,7 @@
 -- must be, written out, and a part of a definition that was misread makes the two differ.
 use Prim.Native.Nat.{ℕ}
 use mathlib.Core.Path.{_≡_, refl}
-use mathlib.Core.Bool.{Bool, true, false}
+use mathlib.Core.Bool.{Bool, true, false, _||_}
 use mathlib.Core.List.{List, [], _∷_, _++_, map}
 use lib.Count.{trailingZeros}
 use lib.Dec.{eqb}
@@ -461,3 +461,7 @@ pub numbers-listed : (right address bits : ℕ) (page : Page) (s : Domain)
     × (soundNumbers ≡ 0 ∷ 2 ∷ 3 ∷ 4 ∷ 5 ∷ 6 ∷ 7 ∷ 8 ∷ 9 ∷ 11 ∷ 12 ∷ 13 ∷ 14 ∷ 15 ∷ 16 ∷ 17 ∷ 19 ∷ [])
     × (map (λ (n : ℕ). isIn n (3 ∷ 5 ∷ [])) (0 ∷ 3 ∷ 4 ∷ 5 ∷ 6 ∷ []) ≡ false ∷ true ∷ false ∷ true ∷ false ∷ [])
 numbers-listed right address bits page s = (refl, refl, refl)
+
+-- what it is to stand in a list, for every number and every list: what is listed is the list's own, and nothing is listed everywhere
+pub in-list-spelled : (n x : ℕ) (rest : List ℕ) → (isIn n [] ≡ false) × (isIn n (x ∷ rest) ≡ (eqb n x || isIn n rest))
+in-list-spelled n x rest = (refl, refl)

