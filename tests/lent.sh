@@ -52,7 +52,7 @@ RT
 printf '0 7 65532 0 0 \n8 7 3 0 1 \n6 7 3 1 0 \n6 7 3 1 1 \n' >"$room/crates/lent/stdout"
 # An empty one: 19; 8 before it; 6 before it; 6 before both.
 printf '19 7 3 0 0 \n8 7 3 0 1 \n6 7 3 1 0 \n6 7 3 1 1 \n' >>"$room/crates/lent/stdout"
-# Mask 0; a mask that shares domains with the one before alone; any mask where the context is empty; domain 15 of a context of 8 and 15; all but these two of it.
+# Mask 0; a mask that shares domains with the one before alone; any mask where the context is empty; domain 15 of a context of 8 and 15; all domains but those two.
 printf '19 7 3 0 0 \n19 4 3 0 0 \n19 0 3 0 0 \n0 33024 32768 0 0 \n19 33024 3 0 0 \n' >>"$room/crates/lent/stdout"
 cd "$room"
 rt try lent

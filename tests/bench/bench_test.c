@@ -192,8 +192,8 @@ static const struct text_case text_cases[] = {
      "03 01 00 00 00 0E" MASK("01 00") WRITE_PAGE("00") "02 00 00 00 00 0A",
      "0 0 0 3 12 0 12 12 0 9 8"},
 
-    /* Empty masks: they share no domain with the live global context, which is
-       0007 for program 0 and 0008 for program 1. */
+    /* Empty masks: they share no domain with the live global context, which in
+       the sample is 0007 for program 0 and 0008 for program 1. */
     {"an empty mask is refused, and the one before stays",
      SAMPLE MASK("00 00") MASK("00 08") MASK("FF F8") READ_PAGE("00")
      READ_PAGE("01") MASK("FF FC") READ_PAGE("02") READ_PAGE("01"),
@@ -215,8 +215,9 @@ static const struct text_case text_cases[] = {
      "0 0 0 0 9 0 0 0 0 19 0 0 0 0 19 9"},
     {"an image may hold empty masks",
      "00 2C " SAMPLE_TABLE "03 08 02 00 " SAMPLE_PAGES
-     "00 07 00 08 00  00 08 00 00 00 " MASK("00 08") MASK("00 01")
-     READ_PAGE("00") TURN_OF("01") READ_PAGE("02"), "0 19 0 0 0 0 0 9"},
+     "00 07 00 08 00  00 08 00 00 00 " READ_PAGE("00") ENTRY RETURN
+     MASK("00 08") MASK("00 01") READ_PAGE("00") TURN_OF("01")
+     READ_PAGE("02"), "0 9 0 0 19 0 0 0 0 0 9"},
     {"empty masks in high bytes",
      SHORTEST MASK("00 FF") MASK("7E FF") WRITE_PAGE("00") MASK("80 00")
      MASK("01 00") READ_PAGE("00") WRITE_PAGE("00"), "0 19 19 0 0 0 0 9"},

@@ -118,8 +118,8 @@ pub long-image :
 unfolding loadOf loadChecks lengthTests kindTests shapeEntryTests shapeTests bodyTests describe machineOf bytesOf
 long-image = (refl, refl, refl)
 
--- the longest image, of 574 bytes: 128 pages and eight programs; and the shortest, of 31. Its mask is empty, 0x1004 for 0x2003, as that of the third program
--- above is: a load does not ask (RULES 5.6).
+-- the longest image, of 574 bytes: 128 pages and eight programs; and the shortest, of 31. The shortest one's mask is empty, 0x1004 with global
+-- context 0x2003, and so is that of the third program above: a load does not ask (RULES 5.6).
 abbrev ends : ℕ → ℕ → ℕ → ℕ → ℕ → ℕ → ℕ → ℕ → List ℕ
 ends size size′ offset offset′ length pages exponent programs =
     0x01 ∷ 0x00 ∷ 0x00 ∷ 0x12 ∷ 0x00 ∷ 0x04 ∷ 0x02 ∷ 0x00 ∷ 0x00 ∷ 0x16 ∷ size ∷ size′ ∷ 0x03 ∷ 0x00 ∷ offset ∷ offset′ ∷ 0x00 ∷ length ∷ pages

@@ -462,6 +462,6 @@ pub numbers-listed : (right address bits : ℕ) (page : Page) (s : Domain)
     × (map (λ (n : ℕ). isIn n (3 ∷ 5 ∷ [])) (0 ∷ 3 ∷ 4 ∷ 5 ∷ 6 ∷ []) ≡ false ∷ true ∷ false ∷ true ∷ false ∷ [])
 numbers-listed right address bits page s = (refl, refl, refl)
 
--- what it is to stand in a list, for every number and every list: what is listed is the list's own, and nothing is listed everywhere
+-- whether a number stands in a list, for every number and every list: in the empty one none does
 pub in-list-spelled : (n x : ℕ) (rest : List ℕ) → (isIn n [] ≡ false) × (isIn n (x ∷ rest) ≡ (eqb n x || isIn n rest))
 in-list-spelled n x rest = (refl, refl)

@@ -18,7 +18,7 @@ use Rattle.rules.specs.declared.registers.Registers.{Registers}
 use Rattle.rules.proofs.Laws.{mask-replaced}
 use Rattle.rules.proofs.Lowest.{held-both, lowest-held}
 
--- RULES 3.8: where the mask command on a record gives each number
+-- RULES 2.11, 3.8: where the mask command on a record gives each number
 pub data MaskGives (r : Registers) (bits : ℕ) : ℕ → Type 0 where
   privileged : r .mode ≡ Privileged → MaskGives r bits 6
   pending : r .mode ≡ User → r .pending ≡ true → MaskGives r bits 8

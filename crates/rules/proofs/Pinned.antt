@@ -117,18 +117,17 @@ mask-commands = refl
 -- something with the one that it would replace, and for an empty global context. Masks that are not: of one shared domain in either byte, also where the mask before
 -- is another one or none.
 pub empty-masks :
-    let refused : ℕ → Registers → Masked = λ number r. record { number = number; registers = r } in
-    let taken : Registers → Masked = refused 0 in
+    let gives : ℕ → Registers → Masked = λ number r. record { number = number; registers = r } in
     (map (λ (r : Registers). maskedOf r 0xFF08)
     (registers 7 3 User false ∷ registers 7 3 User true ∷ registers 7 3 Privileged false ∷ registers 7 3 Privileged true
     ∷ registers 0x00F7 0xFF08 User false ∷ registers 0 0xFFFF User false ∷ [])
-    ≡ refused 19 (registers 7 3 User false) ∷ refused 8 (registers 7 3 User true) ∷ refused 6 (registers 7 3 Privileged false)
-    ∷ refused 6 (registers 7 3 Privileged true) ∷ refused 19 (registers 0x00F7 0xFF08 User false) ∷ refused 19 (registers 0 0xFFFF User false) ∷ [])
+    ≡ gives 19 (registers 7 3 User false) ∷ gives 8 (registers 7 3 User true) ∷ gives 6 (registers 7 3 Privileged false)
+    ∷ gives 6 (registers 7 3 Privileged true) ∷ gives 19 (registers 0x00F7 0xFF08 User false) ∷ gives 19 (registers 0 0xFFFF User false) ∷ [])
     × (map (maskedOf (registers 0xFFFF 0x0101 User false)) (0 ∷ 2 ∷ 0x8000 ∷ 0xFFFF ∷ [])
-    ≡ refused 19 (registers 0xFFFF 0x0101 User false) ∷ taken (registers 0xFFFF 2 User false) ∷ taken (registers 0xFFFF 0x8000 User false)
-    ∷ taken (registers 0xFFFF 0xFFFF User false) ∷ [])
+    ≡ gives 19 (registers 0xFFFF 0x0101 User false) ∷ gives 0 (registers 0xFFFF 2 User false) ∷ gives 0 (registers 0xFFFF 0x8000 User false)
+    ∷ gives 0 (registers 0xFFFF 0xFFFF User false) ∷ [])
     × (map (maskedOf (registers 0x4081 0 User false)) (1 ∷ 0x4000 ∷ 0xBFFE ∷ 0x7F7E ∷ 0xBF7E ∷ [])
-    ≡ taken (registers 0x4081 1 User false) ∷ taken (registers 0x4081 0x4000 User false) ∷ taken (registers 0x4081 0xBFFE User false)
-    ∷ taken (registers 0x4081 0x7F7E User false) ∷ refused 19 (registers 0x4081 0 User false) ∷ [])
+    ≡ gives 0 (registers 0x4081 1 User false) ∷ gives 0 (registers 0x4081 0x4000 User false) ∷ gives 0 (registers 0x4081 0xBFFE User false)
+    ∷ gives 0 (registers 0x4081 0x7F7E User false) ∷ gives 19 (registers 0x4081 0 User false) ∷ [])
 unfolding maskedOf
 empty-masks = (refl, refl, refl)

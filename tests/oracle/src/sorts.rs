@@ -103,11 +103,11 @@ impl Emptied {
     /// access that is denied, though the page has domains for the right, because the local context
     /// has none.
     pub fn denies(&self, machine: &Machine, record: &[u8]) -> Option<usize> {
-        let Some(Call::Access { right, address, .. }) = decode(record) else {
+        let Some(Call::Access { width, right, address }) = decode(record) else {
             return None;
         };
-        let decided_before =
-            right > 1 || u64::from(address) >= machine.memory() || machine.privileged() || machine.pending;
+        let outside = width.touched(address).iter().any(|&byte| byte >= machine.memory());
+        let decided_before = right > 1 || outside || machine.privileged() || machine.pending;
         if decided_before || machine.local_context() != 0 {
             return None;
         }

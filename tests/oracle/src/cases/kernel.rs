@@ -30,11 +30,11 @@ pub fn times(count: usize, step: Step) -> Vec<Step> {
     vec![step; count]
 }
 
-/// The mask command tells the mode: 6 in privileged mode, 0 in user mode with the flag clear. The mask
-/// shares domains with the context of either program of the sample, and leaves each the local context
-/// that it starts with.
+/// A mask that shares domains with the context of either program of the sample, and leaves each the
+/// local context that it starts with.
 const MASK_OF_EITHER: u16 = 0x000B;
 
+/// The mask command tells the mode: 6 in privileged mode, 0 in user mode with the flag clear.
 pub fn in_privileged_mode() -> Step {
     (mask(MASK_OF_EITHER), 6)
 }
