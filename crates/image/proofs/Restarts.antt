@@ -122,11 +122,10 @@ started m can =
     (ap liveOf (pad-at noProgram (m .programs) all 0 least) ∙ live-again (m .registers) (can .flag-clear))
     (length-pad noProgram (m .programs) all)
 
--- RULES 5.17: loading what was written gives 0 and the machine that the image starts
-pub written-loads : (m : Machine) (buffer : List ℕ) → writtenOf m (length buffer) .number ≡ 0
+loads-again : (m : Machine) (buffer : List ℕ) → writtenOf m (length buffer) .number ≡ 0
     → loadOf (take (writtenOf m (length buffer) .count) (bufferAfter m buffer)) ≡ silent 0 (restarted m)
 unfolding writtenOf bufferAfter
-written-loads m buffer accepted =
+loads-again m buffer accepted =
     let image = imageFor m in
     let can = ready m (length buffer) accepted .0 in
     rw (image-written m buffer accepted, take-at image (drop (length image) buffer) (length image) refl)
@@ -154,8 +153,7 @@ pub record Restarts (m r : Machine) : Type 0 where
   pub entry-kept : (i : ℕ) → 1 ≤ i → i < m .programs → getD (r .table) i noProgram ≡ getD (m .table) i noProgram
   pub no-entry : (i : ℕ) → m .programs ≤ i → getD (r .table) i noProgram ≡ noProgram
 
--- RULES 5.17: a machine that was written starts again so
-pub restarts : (m : Machine) (room : ℕ) → writtenOf m room .number ≡ 0 → Restarts m (restarted m)
+restarts : (m : Machine) (room : ℕ) → writtenOf m room .number ≡ 0 → Restarts m (restarted m)
 unfolding restarted writtenOf
 restarts m room accepted =
     let can = ready m room accepted .0 in
@@ -181,6 +179,11 @@ restarts m room accepted =
           ∙ later (entryOf (m .registers)) (m .table) i h;
       no-entry = λ i h. pad-past noProgram 8 (countedPrograms m) i (omega (arith, programs));
     }
+
+-- RULES 5.17: the bytes that were written, as many as were counted, load with 0 to the machine that the image starts, and its places are these
+pub written-restarts : (m : Machine) (buffer : List ℕ) → writtenOf m (length buffer) .number ≡ 0
+    → (loadOf (take (writtenOf m (length buffer) .count) (bufferAfter m buffer)) ≡ silent 0 (restarted m)) × Restarts m (restarted m)
+written-restarts m buffer accepted = (loads-again m buffer accepted, restarts m (length buffer) accepted)
 
 -- ---- from an image to its machine and back
 

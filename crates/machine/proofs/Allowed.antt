@@ -1,11 +1,11 @@
 -- When an access of either width is allowed: exactly where none of its conditions is met, the page of each byte that it touches said by its bounds and not by
--- a division. And when it answers 3 and 9: from what is known of some byte that it touches.
+-- a division. And when it gives each of its numbers, by cases over its tests.
 use Prim.Native.Nat.{ℕ, suc, _+_, _-_, _*_, _/_, _^_, _≤_, _<_}
-use mathlib.Core.Path.{_≡_, refl}
+use mathlib.Core.Path.{_≡_, refl, sym, subst, _∙_}
 use mathlib.Core.Bool.{Bool, true, false, not}
 use mathlib.Core.List.{List, [], _∷_}
 use mathlib.Core.Logic.{_⊎_, _↔_, inl, inr, ⊎-elim}
-use borrow.Author.Tests.{eqb-false, leb-true, leb-false, le-leb, lt-leb, not-false}
+use borrow.Author.Tests.{leb-true, leb-false, le-leb, lt-leb, not-false}
 use lib.Bits.{bitAnd}
 use lib.Dec.{leb, eqb}
 use lib.Pow.{pow-pos}
@@ -14,11 +14,11 @@ use native.Mathlib.Omega.{arith}
 use Rattle.rules.specs.Registers.{localContext}
 use Rattle.rules.specs.Refusals.{Check, _⇒_, first, pick}
 use Rattle.machine.specs.Machine.{isRight, isSound, memorySize, fieldOf}
-use Rattle.machine.specs.Calls.{accessChecks, checksOf, inPrivilegedMode, isDenied, isOutsideMemory, numberOf, touched, any}
+use Rattle.machine.specs.Calls.{callOf, accessChecks, checksOf, inPrivilegedMode, isDenied, isOutsideMemory, numberOf, touched, any}
 use Rattle.machine.specs.declared.record.Machine.{Machine}
 use Rattle.machine.specs.declared.record.Width.{Width}
 use Rattle.machine.specs.declared.record.Call.the-variants.{Access}
-use Rattle.machine.proofs.Answers.{accepted, first-avoids, metAt, unmet}
+use Rattle.machine.proofs.Answers.{accepted, metAt, unmet}
 use Rattle.machine.proofs.Touched.{Touches, bytes, last-touched, none-meets, none-met, one-meets, some-meets}
 
 -- a byte on a page that is there
@@ -38,6 +38,18 @@ pub record Allowed (m : Machine) (width : Width) (right address : ℕ) : Type 0 
       ⊎ ((inPrivilegedMode m ≡ false) × (m .registers .pending ≡ false)
       × ((byte : ℕ) (touches : Touches width address byte)
       → eqb (bitAnd (fieldOf m right (paged byte touches .page)) (localContext (m .registers))) 0 ≡ false))
+
+-- RULES 3.2: where an access gives each number. A byte's page is the one that holds its address.
+pub data AccessGives (m : Machine) (width : Width) (right address : ℕ) : ℕ → Type 0 where
+  unsound : isSound m ≡ false → AccessGives m width right address 1
+  no-right : isSound m ≡ true → 1 < right → AccessGives m width right address 2
+  outside : isSound m ≡ true → right ≤ 1 → m .pages * 2 ^ m .exponent < address + bytes width → AccessGives m width right address 3
+  pending : isSound m ≡ true → right ≤ 1 → address + bytes width ≤ m .pages * 2 ^ m .exponent → inPrivilegedMode m ≡ false
+      → m .registers .pending ≡ true → AccessGives m width right address 8
+  denied : isSound m ≡ true → right ≤ 1 → address + bytes width ≤ m .pages * 2 ^ m .exponent → inPrivilegedMode m ≡ false
+      → m .registers .pending ≡ false → (byte : ℕ) → Touches width address byte
+      → eqb (bitAnd (fieldOf m right (byte / 2 ^ m .exponent)) (localContext (m .registers))) 0 ≡ true → AccessGives m width right address 9
+  done : isSound m ≡ true → Allowed m width right address → AccessGives m width right address 0
 
 module _ (m : Machine) (width : Width) (right address : ℕ) where
   abbrev size : ℕ
@@ -109,47 +121,58 @@ module _ (m : Machine) (width : Width) (right address : ℕ) where
           let counted : byte / size < m .pages = rw (place on) (on .page-counted) in
           lt-leb (memorySize m) byte (div-lt-iff-lt-mul (pow-pos (m .exponent)) .0 counted)
 
-  -- 3 comes exactly where memory ends before the access does
-  pub outside-exactly : isSound m ≡ true → right ≤ 1 → (numberOf m (Access width right address) ≡ 3) ↔ (m .pages * 2 ^ m .exponent < address + bytes width)
+  -- memory ends before the access does where a byte that it touches is outside memory, and nowhere else
+  ends-outside : any (isOutsideMemory m) (touched width address) ≡ true → m .pages * size < address + bytes width
+  ends-outside some =
+      let past = one-meets (isOutsideMemory m) width address some in
+      let out = leb-true (memorySize m) (past .byte) (past .meets) in
+      omega (arith, out, past .touches .1)
+
+  ends-inside : any (isOutsideMemory m) (touched width address) ≡ false → address + bytes width ≤ m .pages * size
+  ends-inside none =
+      let touches = last-touched width address in
+      let last = leb-false (memorySize m) _ (none-meets (isOutsideMemory m) width address none _ touches) in
+      omega (arith, last, touches .1)
+
+  all-inside : address + bytes width ≤ m .pages * size → any (isOutsideMemory m) (touched width address) ≡ false
+  all-inside within = none-met (isOutsideMemory m) width address (λ byte t. lt-leb (memorySize m) byte (omega (arith, within, t .1)))
+
+  given-number : {n : ℕ} → AccessGives m width right address n → numberOf m (Access width right address) ≡ n
   unfolding checksOf accessChecks
-  outside-exactly sound known = (forth, back)
+  given-number (unsound e) = rw e
+  given-number (no-right sound unknown) = rw (sound, lt-leb right 1 unknown)
+  given-number (outside sound known past) =
+      let touches = last-touched width address in
+      let last = le-leb (memorySize m) (address + bytes width - 1) (omega (arith, past, touches .1)) in
+      rw (sound, le-leb right 1 known, some-meets (isOutsideMemory m) width address _ touches last)
+  given-number (pending sound known within user flag) = rw (sound, le-leb right 1 known, all-inside within, user, flag)
+  given-number (denied sound known within user clear byte touches apart) =
+      rw (sound, le-leb right 1 known, all-inside within, user, clear, some-meets (isDenied m right) width address byte touches apart)
+  given-number (done sound a) = allows sound a
+
+  one-given : (n : ℕ) × AccessGives m width right address n
+  unfolding checksOf accessChecks
+  one-given =
+      split (isSound m) refl (leb right 1) refl (any (isOutsideMemory m) (touched width address)) refl (inPrivilegedMode m) refl (m .registers .pending) refl
+      (any (isDenied m right) (touched width address)) refl
     where
-      -- the conditions after 3
-      rest : Bool → List Check
-      rest privileged = pick privileged [] ((m .registers .pending ⇒ 8) ∷ (any (isDenied m right) (touched width address) ⇒ 9) ∷ [])
+      split : (sound : Bool) → isSound m ≡ sound → (known : Bool) → leb right 1 ≡ known
+          → (out : Bool) → any (isOutsideMemory m) (touched width address) ≡ out → (privileged : Bool) → inPrivilegedMode m ≡ privileged
+          → (flag : Bool) → m .registers .pending ≡ flag → (none : Bool) → any (isDenied m right) (touched width address) ≡ none
+          → (n : ℕ) × AccessGives m width right address n
+      split false s known k out o privileged p flag f none d = (1, unsound s)
+      split true s false k out o privileged p flag f none d = (2, no-right s (leb-false right 1 k))
+      split true s true k true o privileged p flag f none d = (3, outside s (leb-true right 1 k) (ends-outside o))
+      split true s true k false o true p flag f none d = (0, done s (allowed (rw (s, k, o, p))))
+      split true s true k false o false p true f none d = (8, pending s (leb-true right 1 k) (ends-inside o) p f)
+      split true s true k false o false p false f true d =
+          let page = one-meets (isDenied m right) width address d in
+          (9, denied s (leb-true right 1 k) (ends-inside o) p f (page .byte) (page .touches) (page .meets))
+      split true s true k false o false p false f false d = (0, done s (allowed (rw (s, k, o, p, f, d))))
 
-      not-three : (privileged : Bool) → first (rest privileged) ≡ 3 → ⊥
-      not-three true = eqb-false (first (rest true)) 3 (first-avoids 3 (rest true) refl)
-      not-three false = eqb-false (first (rest false)) 3 (first-avoids 3 (rest false) refl)
-
-      forth : numberOf m (Access width right address) ≡ 3 → memorySize m < address + bytes width
-      forth three = split (any (isOutsideMemory m) (touched width address)) refl
-        where
-          split : (b : Bool) → any (isOutsideMemory m) (touched width address) ≡ b → memorySize m < address + bytes width
-          split true e =
-              let past = one-meets (isOutsideMemory m) width address e in
-              let out = leb-true (memorySize m) (past .byte) (past .meets) in
-              let ends = past .touches .1 in
-              omega (arith, out, ends)
-          split false e =
-              absurd (not-three (inPrivilegedMode m) (rw (sound, le-leb right 1 known, e) at three))
-
-      back : memorySize m < address + bytes width → numberOf m (Access width right address) ≡ 3
-      back past = rw (sound, le-leb right 1 known, last-outside)
-        where
-          last-outside : any (isOutsideMemory m) (touched width address) ≡ true
-          last-outside =
-              let last = address + bytes width - 1 in
-              let touches = last-touched width address in
-              some-meets (isOutsideMemory m) width address last touches (le-leb (memorySize m) last (omega (arith, past, touches .1)))
-
-  -- 9 comes where all bytes are in memory, the mode is user, the flag is clear, and the page of one of the bytes does not give the right; that it comes
-  -- nowhere else is `violation-denies` (Laws)
-  pub denial-answered : isSound m ≡ true → right ≤ 1 → address + bytes width ≤ m .pages * 2 ^ m .exponent → inPrivilegedMode m ≡ false
-      → m .registers .pending ≡ false → (byte : ℕ) → Touches width address byte
-      → eqb (bitAnd (fieldOf m right (byte / 2 ^ m .exponent)) (localContext (m .registers))) 0 ≡ true → numberOf m (Access width right address) ≡ 9
-  unfolding checksOf accessChecks
-  denial-answered sound known within user clear byte touches apart =
-      let inside = none-met (isOutsideMemory m) width address (λ other t. let ends = t .1 in lt-leb (memorySize m) other (omega (arith, within, ends))) in
-      let denied = some-meets (isDenied m right) width address byte touches apart in
-      rw (sound, le-leb right 1 known, inside, user, clear, denied)
+  -- RULES 3.2: each number of an access of either width exactly where it is due
+  pub access-number-exactly : (n : ℕ) → (callOf m (Access width right address) .number ≡ n) ↔ AccessGives m width right address n
+  unfolding callOf
+  access-number-exactly n =
+      let one = one-given in
+      ((λ e. subst (AccessGives m width right address) (sym (given-number (one .1)) ∙ e) (one .1)), given-number)

@@ -13,7 +13,7 @@ use Rattle.rules.specs.Domains.{prevailing, withBit, withoutBit}
 use Rattle.rules.specs.Refusals.{Check, _⇒_, first, pick}
 use Rattle.rules.specs.declared.registers.Registers.{Registers}
 use Rattle.machine.specs.Machine.{isSound, fieldOf, placeOf, withFields, withRegisters, withStack, withPrograms, withLast}
-use Rattle.machine.specs.Calls.{callOf, uncheckedOf, answerBy, silent, ownNumberOf, changeCall, checksOf, changeChecks, effectOf, deniedBy, domainThrough, inPrivilegedMode, named, reportOf, numberOf, after, violated}
+use Rattle.machine.specs.Calls.{callOf, uncheckedOf, answerBy, silent, ownNumberOf, changeCall, checksOf, changeChecks, effectOf, lastAfterViolation, domainThrough, inPrivilegedMode, named, reportOf, numberOf, after, violated}
 use Rattle.machine.specs.declared.record.Machine.{Machine}
 use Rattle.machine.specs.declared.record.Program.{Program}
 use Rattle.machine.specs.declared.record.Page.{Page}
@@ -232,7 +232,7 @@ module _ (m : Machine) (right : ℕ) (page : Page) (s : Domain) where
 pub access-answered : (m : Machine) (width : Width) (right address : ℕ) {n : ℕ} {r : Registers} {last : LastViolation} {report : Report}
     → n ≡ ownNumberOf m (Access width right address)
     → r ≡ pick (eqb n 9) (withPending true (m .registers)) (m .registers)
-    → last ≡ pick (eqb n 9) (deniedBy m (Access width right address)) (m .violations .last)
+    → last ≡ pick (eqb n 9) (lastAfterViolation m (Access width right address)) (m .violations .last)
     → report ≡ pick (eqb n 0 && not (inPrivilegedMode m)) (Through (domainThrough m right address)) Nothing
     → _≡_ {A = Answered} (record { number = n; machine = withLast last (withRegisters r m); report = report }) (uncheckedOf m (Access width right address))
 unfolding uncheckedOf after effectOf
@@ -245,7 +245,7 @@ access-answered m width right address {n} {r} {last} {report} number changed den
     end b = pick b (violated m (Access width right address)) m
 
     kept : (b : Bool)
-        → withLast (pick b (deniedBy m (Access width right address)) (m .violations .last))
+        → withLast (pick b (lastAfterViolation m (Access width right address)) (m .violations .last))
         (withRegisters (pick b (withPending true (m .registers)) (m .registers)) m)
         ≡ pick b (violated m (Access width right address)) m
     kept true = refl

@@ -12,7 +12,7 @@ use lib.ListN.{getD}
 use Rattle.rules.specs.Registers.{localContext, withPending}
 use Rattle.rules.specs.Refusals.{_⇒_, first, pick}
 use Rattle.machine.specs.Machine.{isRight, isSound, memorySize, fieldOf, violationFits, noProgram, withRegisters, withLast}
-use Rattle.machine.specs.Calls.{callOf, answerBy, silent, checksOf, accessChecks, changeChecks, effectOf, entered, returned, switched, deniedBy, handedOut, inPrivilegedMode, inUserMode, isDenied, isOutsideMemory, numberOf, touched, any, after, violated}
+use Rattle.machine.specs.Calls.{callOf, answerBy, silent, checksOf, accessChecks, changeChecks, effectOf, entered, returned, switched, lastAfterViolation, handedOut, reportOf, inPrivilegedMode, inUserMode, isDenied, isOutsideMemory, numberOf, touched, any, after, violated}
 use Rattle.machine.specs.Listed.{isIn, listed, ownNumbers, soundNumbers}
 use Rattle.machine.specs.declared.record.Machine.{Machine}
 use Rattle.machine.specs.declared.record.LastViolation.{LastViolation}
@@ -67,7 +67,7 @@ sound-number m call s = rw s (told m call .numbers .given s)
 -- RULES 2.5: a refusal changes nothing, but that 9 sets the flag and the last violation
 pub refusal-unchanged : (m : Machine) (call : Call) → (callOf m call .number ≡ 0 → ⊥)
     → callOf m call .machine
-    ≡ pick (eqb (callOf m call .number) 9) (withLast (deniedBy m call) (withRegisters (withPending true (m .registers)) m)) m
+    ≡ pick (eqb (callOf m call .number) 9) (withLast (lastAfterViolation m call) (withRegisters (withPending true (m .registers)) m)) m
 unfolding callOf after
 refusal-unchanged m call refused = rw (ne-eqb (numberOf m call) 0 refused)
 
@@ -155,7 +155,7 @@ pub soundness-kept : (m : Machine) (call : Call) → isSound (callOf m call .mac
 unfolding callOf after
 soundness-kept m call = split (isSound m) refl
   where
-    denied-fits : numberOf m call ≡ 9 → Sound m → violationFits (m .programs) (memorySize m) (deniedBy m call) ≡ true
+    denied-fits : numberOf m call ≡ 9 → Sound m → violationFits (m .programs) (memorySize m) (lastAfterViolation m call) ≡ true
     denied-fits nine s =
         let v = violation-denies m call nine in
         rw (v .accessed, lt-ltb _ _ (s .current-below), le-leb _ _ (v .right-known), lt-ltb _ _ (v .inside (v .address) (first-touched (v .width) (v .address))))
@@ -184,32 +184,39 @@ last-kept m call other =
     after-cases (λ end. end .violations .last ≡ m .violations .last) (numberOf m call) m call (λ n. told m call .left n .last-stays)
     (λ nine. absurd (other nine)) refl
 
--- neither a call's own conditions nor the rest of its effect know of the last violation
+-- neither a call's own conditions nor the rest of its effect know of the last violation, and only the question reports it
 aside-last : (m : Machine) (last other : LastViolation) (call : Call)
     → (checksOf (withLast last m) call ≡ checksOf m call)
     × (withLast other (effectOf (withLast last m) call) ≡ withLast other (effectOf m call))
+    × ((call ≡ AskViolation → ⊥) → reportOf (withLast last m) call ≡ reportOf m call)
 unfolding checksOf accessChecks changeChecks effectOf entered returned switched
-aside-last m last other (Access width right address) = (refl, refl)
-aside-last m last other (Grant right page s) = (refl, refl)
-aside-last m last other (Revoke right page s) = (refl, refl)
-aside-last m last other (SetMask bits) = (refl, refl)
-aside-last m last other Enter = (refl, refl)
-aside-last m last other Return = (refl, refl)
-aside-last m last other (Switch program) = (refl, refl)
-aside-last m last other (StoreField right page bits) = (refl, refl)
-aside-last m last other (StoreContext bits) = (refl, refl)
-aside-last m last other (StoreMask bits) = (refl, refl)
-aside-last m last other (StoreMode mode) = (refl, refl)
-aside-last m last other AskViolation = (refl, refl)
+aside-last m last other (Access width right address) = (refl, refl, λ _. refl)
+aside-last m last other (Grant right page s) = (refl, refl, λ _. refl)
+aside-last m last other (Revoke right page s) = (refl, refl, λ _. refl)
+aside-last m last other (SetMask bits) = (refl, refl, λ _. refl)
+aside-last m last other Enter = (refl, refl, λ _. refl)
+aside-last m last other Return = (refl, refl, λ _. refl)
+aside-last m last other (Switch program) = (refl, refl, λ _. refl)
+aside-last m last other (StoreField right page bits) = (refl, refl, λ _. refl)
+aside-last m last other (StoreContext bits) = (refl, refl, λ _. refl)
+aside-last m last other (StoreMask bits) = (refl, refl, λ _. refl)
+aside-last m last other (StoreMode mode) = (refl, refl, λ _. refl)
+aside-last m last other AskViolation = (refl, refl, λ question. absurd (question refl))
 
--- RULES 1.16: whichever violation is the last, on a sound machine a call answers the same number, and what is left but the last violation is the same
+-- RULES 1.16: whichever violation is the last, on a sound machine a call answers the same number, what is left but the last violation is the same, and
+-- every call but the question for it reports the same
 pub last-unseen : (m : Machine) (last other : LastViolation) (call : Call) → isSound m ≡ true → isSound (withLast last m) ≡ true
     → (callOf (withLast last m) call .number ≡ callOf m call .number)
     × (withLast other (callOf (withLast last m) call .machine) ≡ withLast other (callOf m call .machine))
+    × ((call ≡ AskViolation → ⊥) → callOf (withLast last m) call .report ≡ callOf m call .report)
 unfolding callOf
 last-unseen m last other call sound sound′ =
     let aside = aside-last m last other call in
-    rw (sound, sound′, aside .0) (refl, after-both (λ a b. withLast other a ≡ withLast other b) (first (checksOf m call)) call (aside .1) refl refl)
+    rw (sound, sound′, aside .0) (
+      refl,
+      after-both (λ a b. withLast other a ≡ withLast other b) (first (checksOf m call)) call (aside .1) refl refl,
+      λ others. rw (aside .2 others),
+    )
 
 -- RULES 2.13: a refused call reports nothing
 pub refused-silent : (m : Machine) (call : Call) → (callOf m call .number ≡ 0 → ⊥) → callOf m call .report ≡ Nothing

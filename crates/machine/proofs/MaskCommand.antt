@@ -6,8 +6,7 @@ use mathlib.Core.Bool.{Bool, true, false}
 use mathlib.Core.Logic.{_⊎_, _↔_, inl, inr, ⊎-elim}
 use lib.Dec.{eqb}
 use Rattle.rules.specs.Refusals.{pick}
-use Rattle.rules.specs.Registers.{isPrivileged, isEmptyMask, localContext, withMask, maskNumber, maskedOf}
-use Rattle.rules.specs.declared.registers.Registers.{Registers}
+use Rattle.rules.specs.Registers.{isPrivileged, isEmptyMask, localContext, withMask, maskedOf}
 use Rattle.rules.proofs.Masks.{MaskGives, mask-number-exactly, mask-lets-through, mask-needs-context}
 use Rattle.machine.specs.Machine.{isSound}
 use Rattle.machine.specs.Calls.{callOf, checksOf, effectOf, after}
@@ -15,16 +14,6 @@ use Rattle.machine.specs.declared.record.Machine.{Machine}
 use Rattle.machine.specs.declared.record.Answered.{Answered}
 use Rattle.machine.specs.declared.record.Call.the-variants.{SetMask}
 use Rattle.machine.proofs.Answers.{accepted}
-
--- where the machine's number is 0, the record is the one with the mask replaced
-pub mask-taken : (r : Registers) (bits : ℕ)
-    → pick (eqb (maskNumber r bits) 0) (maskedOf r bits .registers) r ≡ pick (eqb (maskNumber r bits) 0) (withMask bits r) r
-unfolding maskedOf
-mask-taken r bits = split (eqb (maskNumber r bits) 0)
-  where
-    split : (b : Bool) → pick b (pick b (withMask bits r) r) r ≡ pick b (withMask bits r) r
-    split true = refl
-    split false = refl
 
 -- RULES 2.11: on a sound machine the two answer the same number
 pub lent-answers : (m : Machine) (bits : ℕ) → isSound m ≡ true

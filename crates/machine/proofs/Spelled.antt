@@ -13,7 +13,7 @@ use Rattle.rules.specs.Refusals.{_⇒_, first, pick}
 use Rattle.rules.specs.declared.registers.Mode.the-variants.{User, Privileged}
 use Rattle.rules.specs.declared.registers.Registers.{Registers}
 use Rattle.rules.specs.Registers.{isPrivileged}
-use Rattle.machine.specs.Calls.{callOf, uncheckedOf, keeping, deniedBy, reportOf, checksOf, accessChecks, changeChecks, effectOf, entered, returned, switched, after}
+use Rattle.machine.specs.Calls.{callOf, uncheckedOf, keeping, lastAfterViolation, reportOf, checksOf, accessChecks, changeChecks, effectOf, entered, returned, switched, after}
 use Rattle.machine.specs.Machine.{isSound, violationFits}
 use Rattle.machine.specs.declared.record.Machine.{Machine}
 use Rattle.machine.specs.declared.record.Page.{Page}
@@ -161,8 +161,8 @@ module _ (m : Machine) where
 
   -- what 9 would leave as the last violation: the access that was denied; no other call brings one
   pub denials-spelled : (width : Width) (right address bits : ℕ) (page : Page) (s : Domain)
-      → (deniedBy m (Access width right address) ≡ denied (m .current) right address)
-      × (map (deniedBy m) (AskViolation ∷ others right bits page s) ≡ replicate 11 (m .violations .last))
+      → (lastAfterViolation m (Access width right address) ≡ denied (m .current) right address)
+      × (map (lastAfterViolation m) (AskViolation ∷ others right bits page s) ≡ replicate 11 (m .violations .last))
   denials-spelled width right address bits page s = (refl, refl)
 
   -- what an accepted call reports: an access in user mode the lowest bit that the first byte's field, the global context and the mask share, the question
@@ -186,7 +186,7 @@ module _ (m : Machine) where
         number = k;
         machine = pick (eqb k 0) (effectOf m call)
             (pick (eqb k 9)
-            (holding (deniedBy m call) (m .pages) (m .exponent) (m .fields)
+            (holding (lastAfterViolation m call) (m .pages) (m .exponent) (m .fields)
             (live (m .registers .context) (m .registers .mask) (m .registers .mode) true) (m .depth) (m .saved) (m .programs) (m .current) (m .table)) m);
         report = pick (eqb k 0) (reportOf m call) Nothing;
       } in

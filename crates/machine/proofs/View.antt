@@ -18,7 +18,7 @@ use Rattle.rules.specs.declared.domains.Prevailing.the-variants.{At}
 use Rattle.rules.proofs.Bits.{and-assoc, unseen, seen-alike, unmoved}
 use Rattle.rules.proofs.Lowest.{both-held}
 use Rattle.machine.specs.Machine.{isSound, placeOf, fieldOf, withFields, withRegisters, withLast}
-use Rattle.machine.specs.Calls.{callOf, checksOf, accessChecks, changeChecks, effectOf, deniedBy, isDenied, isOutsideMemory, numberOf, pageOf, reportOf, touched}
+use Rattle.machine.specs.Calls.{callOf, checksOf, accessChecks, changeChecks, effectOf, lastAfterViolation, isDenied, isOutsideMemory, numberOf, pageOf, reportOf, touched}
 use Rattle.machine.specs.declared.record.Machine.{Machine}
 use Rattle.machine.specs.declared.record.Page.{Page}
 use Rattle.machine.specs.declared.record.Domain.{Domain}
@@ -130,7 +130,7 @@ module _ (m : Machine) where
   command-stays (an-access width right address) =
       let call = Access width right address in
       after-cases (Stays m) (numberOf m call) m call (λ _. same-stays)
-      (λ _. stays-with m (m .registers .mask) true (m .fields) (deniedBy m call) refl)
+      (λ _. stays-with m (m .registers .mask) true (m .fields) (lastAfterViolation m call) refl)
       same-stays
   command-stays (a-change granting right page s) =
       let call = pick granting (Grant right page s) (Revoke right page s) in

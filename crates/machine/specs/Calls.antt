@@ -1,4 +1,5 @@
--- The twelve calls (RULES, sections 2 and 3): for each its own conditions, in order, its effect and what it reports.
+-- The twelve calls (RULES, sections 2 and 3): for each a row of `ruleOf`, with its own conditions, in order, its effect, what it
+-- reports and what 9 leaves.
 use Prim.Native.Nat.{ℕ, _+_, _-_, _^_, _/_}
 use mathlib.Core.Bool.{Bool, true, false, not, _||_}
 use mathlib.Core.List.{List, [], _∷_}
@@ -85,45 +86,6 @@ changeChecks m right page s prevails =
     ∷ (isNotLower prevails (s .0) ⇒ 12)
     ∷ []
 
--- RULES 2.3: each call's own conditions, in the order in which they are looked at.
--- RULES 3.2: access, of either width
-unfoldable pub checksOf : Machine → Call → List Check
-checksOf m (Access width right address) = accessChecks m right (touched width address)
--- RULES 3.4, 3.6: grant and revoke, which refuse the same
-checksOf m (Grant right page s) = changeChecks m right page s (prevailing (fieldOf m right (page .0)))
-checksOf m (Revoke right page s) = changeChecks m right page s (prevailing (fieldOf m right (page .0)))
--- RULES 3.8: the mask command, which looks at its mask and at the live registers alone
-checksOf m (SetMask bits) = maskChecks (m .registers) bits
--- RULES 3.10: interrupt entry, where all places of the stack are taken
-checksOf m Enter = (not (ltb (m .depth) 8) ⇒ 13) ∷ []
--- RULES 3.12: return
-checksOf m Return = (inUserMode m ⇒ 7) ∷ (eqb (m .depth) 0 ⇒ 14) ∷ []
--- RULES 3.14: switch. A sound machine never meets 10 (9.2).
-checksOf m (Switch program) =
-    (inUserMode m ⇒ 7)
-    ∷ (not (ltb (m .current) (m .programs)) ⇒ 10)
-    ∷ (not (eqb (m .depth) 1) ⇒ 15)
-    ∷ (not (ltb program (m .programs)) ⇒ 16)
-    ∷ []
--- RULES 3.16: the store of a field
-checksOf m (StoreField right page bits) =
-    (not (isRight right) ⇒ 2) ∷ (not (ltb (page .0) (m .pages)) ⇒ 4) ∷ (inUserMode m ⇒ 7) ∷ []
--- RULES 3.18, 3.20: the stores of the global context and of the mask
-checksOf m (StoreContext bits) = (inUserMode m ⇒ 7) ∷ []
-checksOf m (StoreMask bits) = (inUserMode m ⇒ 7) ∷ []
--- RULES 3.22: the store of the mode, where 17 comes before 7
-checksOf m (StoreMode mode) = (not (leb mode 1) ⇒ 17) ∷ (inUserMode m ⇒ 7) ∷ []
--- RULES 3.24: the question for the last violation
-checksOf m AskViolation = (inUserMode m ⇒ 7) ∷ []
-
--- RULES 2.3, 2.8: a call's number by its own conditions alone
-abbrev pub ownNumberOf : Machine → Call → ℕ
-ownNumberOf m call = first (checksOf m call)
-
--- RULES 2.4: the number of a call by value, which looks at soundness before all else
-abbrev pub numberOf : Machine → Call → ℕ
-numberOf m call = pick (not (isSound m)) 1 (ownNumberOf m call)
-
 -- RULES 3.23, 5.6: the mode of a number. Above 1 nothing is read from it: 17 and 25 refuse such numbers.
 abbrev pub modeOf : ℕ → Mode
 modeOf mode = pick (eqb mode 0) User Privileged
@@ -157,52 +119,6 @@ switched m program =
     (withStack (m .depth) (set (m .saved) 0 (isPrivileged (named .mode)))
     (withRegisters (withContext (named .context) (withMask (named .mask) r)) m))
 
--- RULES 2.3: the machine after a call that nothing refuses; what an effect does not name stays (3.1).
--- RULES 3.3: an allowed access changes nothing
-unfoldable pub effectOf : Machine → Call → Machine
-effectOf m (Access width right address) = m
--- RULES 3.5, 3.7: a grant sets the bit of s and a revocation clears it, whatever it was
-effectOf m (Grant right page s) = withField m right (page .0) (withBit (fieldOf m right (page .0)) (s .0))
-effectOf m (Revoke right page s) = withField m right (page .0) (withoutBit (fieldOf m right (page .0)) (s .0))
--- RULES 3.9: the mask as it is given, not trimmed to the global context
-effectOf m (SetMask bits) = withRegisters (withMask bits (m .registers)) m
--- RULES 3.11, 3.13, 3.15: entry, return and switch
-effectOf m Enter = entered m
-effectOf m Return = returned m
-effectOf m (Switch program) = switched m program
--- RULES 3.17, 3.19, 3.21, 3.23: the four stores, which leave the current program's table entry alone
-effectOf m (StoreField right page bits) = withField m right (page .0) bits
-effectOf m (StoreContext bits) = withRegisters (withContext bits (m .registers)) m
-effectOf m (StoreMask bits) = withRegisters (withMask bits (m .registers)) m
-effectOf m (StoreMode mode) = withRegisters (withMode (modeOf mode) (m .registers)) m
--- RULES 3.25: the question changes nothing, so that it can be asked again
-effectOf m AskViolation = m
-
--- RULES 1.16, 3.3: what an answer of 9 leaves as the last violation: the current program was denied that right to that address, which is the first
--- byte's, whichever byte's page denied it.
-abbrev pub deniedBy : Machine → Call → LastViolation
-deniedBy m (Access width right address) = Was (record { program = m .current; right = right; address = address })
--- RULES 9.1: no other call answers 9, and the last violation stays
-deniedBy m (Grant right page s) = m .violations .last
-deniedBy m (Revoke right page s) = m .violations .last
-deniedBy m (SetMask bits) = m .violations .last
-deniedBy m Enter = m .violations .last
-deniedBy m Return = m .violations .last
-deniedBy m (Switch program) = m .violations .last
-deniedBy m (StoreField right page bits) = m .violations .last
-deniedBy m (StoreContext bits) = m .violations .last
-deniedBy m (StoreMask bits) = m .violations .last
-deniedBy m (StoreMode mode) = m .violations .last
-deniedBy m AskViolation = m .violations .last
-
--- RULES 3.3: a violation sets the flag, and is the last one from now on
-abbrev pub violated : Machine → Call → Machine
-violated m call = withLast (deniedBy m call) (withRegisters (withPending true (m .registers)) m)
-
--- RULES 2.3, 2.5: the machine after a call by its number: the effect on 0, the violation on 9, the machine as it was on any other
-unfoldable pub after : ℕ → Machine → Call → Machine
-after number m call = pick (eqb number 0) (effectOf m call) (pick (eqb number 9) (violated m call) m)
-
 -- RULES 3.25: the last violation as a report; where there is none, nothing is reported
 abbrev pub handedOut : LastViolation → Report
 handedOut Absent = Nothing
@@ -217,21 +133,98 @@ domainThrough m right address = asDomain (givingDomain (fieldOf m right (pageOf 
 abbrev pub named : Machine → ℕ → ℕ → Report
 named m right address = pick (inPrivilegedMode m) Nothing (Through (domainThrough m right address))
 
--- RULES 2.13: what a call reports that nothing refuses. An access names a domain, the question hands out the last violation, and no other call reports
--- anything.
+-- RULES 2.3, 2.5, 2.13: all that section 3 says of a call on a machine
+pub record Rule : Type 0 where
+  -- its own conditions, in the order in which they are looked at
+  pub checks : List Check
+  -- where none of them is met, the machine after it; what an effect does not name stays (3.1)
+  pub effect : Machine
+  -- where none of them is met, what it reports
+  pub report : Report
+  -- where 9 is answered, what that leaves as the last violation (1.16)
+  pub last : LastViolation
+
+-- RULES 2.13, 9.1: a call that reports nothing and never answers 9, by its conditions and its effect
+abbrev pub plain : Machine → List Check → Machine → Rule
+plain m checks effect = record { checks = checks; effect = effect; report = Nothing; last = m .violations .last }
+
+-- RULES 3.2, 3.3: access, of either width. What is allowed changes nothing. The last violation is that the current program was denied that right to that
+-- address, which is the first byte's, whichever byte's page denied it.
+abbrev pub ruleOf : Machine → Call → Rule
+ruleOf m (Access width right address) =
+    record {
+      checks = accessChecks m right (touched width address);
+      effect = m;
+      report = named m right address;
+      last = Was (record { program = m .current; right = right; address = address });
+    }
+-- RULES 3.4, 3.5: grant sets the bit of s, whatever it was
+ruleOf m (Grant right page s) =
+    let field = fieldOf m right (page .0) in
+    plain m (changeChecks m right page s (prevailing field)) (withField m right (page .0) (withBit field (s .0)))
+-- RULES 3.6, 3.7: revoke refuses the same and clears the bit, whatever it was
+ruleOf m (Revoke right page s) =
+    let field = fieldOf m right (page .0) in
+    plain m (changeChecks m right page s (prevailing field)) (withField m right (page .0) (withoutBit field (s .0)))
+-- RULES 3.8, 3.9: the mask command looks at its mask and at the live registers alone; the mask as it is given, not trimmed to the global context
+ruleOf m (SetMask bits) = plain m (maskChecks (m .registers) bits) (withRegisters (withMask bits (m .registers)) m)
+-- RULES 3.10, 3.11: interrupt entry, refused where all places of the stack are taken
+ruleOf m Enter = plain m ((not (ltb (m .depth) 8) ⇒ 13) ∷ []) (entered m)
+-- RULES 3.12, 3.13: return
+ruleOf m Return = plain m ((inUserMode m ⇒ 7) ∷ (eqb (m .depth) 0 ⇒ 14) ∷ []) (returned m)
+-- RULES 3.14, 3.15: switch. A sound machine never meets 10 (9.2).
+ruleOf m (Switch program) =
+    plain m
+    ((inUserMode m ⇒ 7)
+    ∷ (not (ltb (m .current) (m .programs)) ⇒ 10)
+    ∷ (not (eqb (m .depth) 1) ⇒ 15)
+    ∷ (not (ltb program (m .programs)) ⇒ 16)
+    ∷ [])
+    (switched m program)
+-- RULES 3.16 to 3.23: the four stores, which leave the current program's table entry alone: of a field,
+ruleOf m (StoreField right page bits) =
+    plain m ((not (isRight right) ⇒ 2) ∷ (not (ltb (page .0) (m .pages)) ⇒ 4) ∷ (inUserMode m ⇒ 7) ∷ []) (withField m right (page .0) bits)
+-- of the global context and of the mask,
+ruleOf m (StoreContext bits) = plain m ((inUserMode m ⇒ 7) ∷ []) (withRegisters (withContext bits (m .registers)) m)
+ruleOf m (StoreMask bits) = plain m ((inUserMode m ⇒ 7) ∷ []) (withRegisters (withMask bits (m .registers)) m)
+-- and of the mode, where 17 comes before 7
+ruleOf m (StoreMode mode) =
+    plain m ((not (leb mode 1) ⇒ 17) ∷ (inUserMode m ⇒ 7) ∷ []) (withRegisters (withMode (modeOf mode) (m .registers)) m)
+-- RULES 3.24, 3.25: the question for the last violation, which changes nothing, so that it can be asked again
+ruleOf m AskViolation =
+    record { checks = (inUserMode m ⇒ 7) ∷ []; effect = m; report = handedOut (m .violations .last); last = m .violations .last }
+
+-- RULES 2.3: a call's own conditions
+unfoldable pub checksOf : Machine → Call → List Check
+checksOf m call = ruleOf m call .checks
+
+-- RULES 2.3: the machine after a call that nothing refuses
+unfoldable pub effectOf : Machine → Call → Machine
+effectOf m call = ruleOf m call .effect
+
+-- RULES 2.13: what a call reports that nothing refuses
 abbrev pub reportOf : Machine → Call → Report
-reportOf m (Access width right address) = named m right address
-reportOf m (Grant right page s) = Nothing
-reportOf m (Revoke right page s) = Nothing
-reportOf m (SetMask bits) = Nothing
-reportOf m Enter = Nothing
-reportOf m Return = Nothing
-reportOf m (Switch program) = Nothing
-reportOf m (StoreField right page bits) = Nothing
-reportOf m (StoreContext bits) = Nothing
-reportOf m (StoreMask bits) = Nothing
-reportOf m (StoreMode mode) = Nothing
-reportOf m AskViolation = handedOut (m .violations .last)
+reportOf m call = ruleOf m call .report
+
+-- RULES 1.16, 3.3: what an answer of 9 leaves as the last violation
+abbrev pub lastAfterViolation : Machine → Call → LastViolation
+lastAfterViolation m call = ruleOf m call .last
+
+-- RULES 2.3, 2.8: a call's number by its own conditions alone
+abbrev pub ownNumberOf : Machine → Call → ℕ
+ownNumberOf m call = first (checksOf m call)
+
+-- RULES 2.4: the number of a call by value, which looks at soundness before all else
+abbrev pub numberOf : Machine → Call → ℕ
+numberOf m call = pick (not (isSound m)) 1 (ownNumberOf m call)
+
+-- RULES 3.3: a violation sets the flag, and is the last one from now on
+abbrev pub violated : Machine → Call → Machine
+violated m call = withLast (lastAfterViolation m call) (withRegisters (withPending true (m .registers)) m)
+
+-- RULES 2.3, 2.5: the machine after a call by its number: the effect on 0, the violation on 9, the machine as it was on any other
+unfoldable pub after : ℕ → Machine → Call → Machine
+after number m call = pick (eqb number 0) (effectOf m call) (pick (eqb number 9) (violated m call) m)
 
 -- RULES 2.1, 2.13: a call's answer: a number, the machine after it, and what it reports, which is nothing where it is refused
 abbrev pub answerBy : ℕ → Machine → Call → Answered

@@ -150,7 +150,7 @@ fn any_denied(
 }
 
 // What an access reports, from the field of its first byte's page: where it is done in user mode, the domain through which that page gives the right (RULES 3.3).
-fn name_where(done: bool, field: u16, local: u16) -> Report
+fn report_through(done: bool, field: u16, local: u16) -> Report
     ensures { λ r. ⌜ r ≡ pick done (Through (asDomain (givingDomain field local))) Nothing ⌝ }
 {
     if !done {
@@ -189,7 +189,7 @@ impl Machine {
     }
 
     // The number of an access, from the fields that are lent.
-    fn access_at(self, fields: &[u16], width: Width, right: u8, address: u32) -> u8
+    fn number_of_access(self, fields: &[u16], width: Width, right: u8, address: u32) -> u8
         ensures { λ r. ⌜ r ≡ first (accessChecks (withFields (now (fields .entry)) self) right (touched width address)) ⌝ }
     {
         let registers = self.registers;
@@ -214,17 +214,17 @@ impl Machine {
     pub fn access_lent(mut self, fields: &[u16], width: Width, right: u8, address: u32) -> Answered
         ensures { λ r. ⌜ r ≡ keeping self (uncheckedOf (withFields (now (fields .entry)) self) (Call.Access width right address)) ⌝ }
     {
-        let registers = self.registers;
-        let number = self.access_at(fields, width, right, address);
-        let after = registers.or_where(number == 9, registers.with_pending(true));
+        let mut registers = self.registers;
+        let number = self.number_of_access(fields, width, right, address);
         let mut violations = self.violations;
         let field = field_at(fields, self.exponent, right, address, 0);
-        let report = name_where(
+        let report = report_through(
             (number == 0) & !registers.privileged(),
             field,
             registers.local(),
         );
         if number == 9 {
+            registers = registers.with_pending(true);
             violations = Violations {
                 last: LastViolation::Was(Violation {
                     program: self.current,
@@ -233,7 +233,7 @@ impl Machine {
                 }),
             };
         }
-        self.registers = after;
+        self.registers = registers;
         self.violations = violations;
         Answered {
             number,
@@ -258,7 +258,7 @@ impl Machine {
     }
 
     // The number of a grant or a revocation, from the field of that right to that page.
-    fn change_number(self, right: u8, page: Page, domain: Domain, field: u16) -> u8
+    fn number_of_change(self, right: u8, page: Page, domain: Domain, field: u16) -> u8
         ensures { λ r. ⌜ r ≡ first (changeChecks self right page domain (prevailing field)) ⌝ }
     {
         let registers = self.registers;
@@ -288,7 +288,7 @@ impl Machine {
     {
         let at = place(right, page.0 as u32);
         let field = read_field(fields, at);
-        let number = self.change_number(right, page, domain, field);
+        let number = self.number_of_change(right, page, domain, field);
         let changed = changed_bits(granting, field, domain.0);
         write_field(fields, at, chosen(number == 0, changed, field));
         number
@@ -330,14 +330,11 @@ impl Machine {
     pub fn set_mask_unchecked(mut self, mask: u16) -> Answered
         ensures { λ r. ⌜ r ≡ uncheckedOf self (Call.SetMask mask) ⌝ }
     {
-        let registers = self.registers;
-        let done = replace_mask(registers, mask);
-        let number = done.number;
-        let others = done.registers;
-        let after = registers.or_where(number == 0, others);
+        let done = replace_mask(self.registers, mask);
+        let after = done.registers;
         self.registers = after;
         Answered {
-            number,
+            number: done.number,
             machine: self,
             report: Report::Nothing,
         }
@@ -535,7 +532,7 @@ impl Machine {
     {
         let registers = self.registers;
         let number = register_number(!registers.privileged());
-        let after = registers.or_where(number == 0, registers.with_context(bits));
+        let after = registers.replaced_where(number == 0, registers.with_context(bits));
         self.registers = after;
         Answered {
             number,
@@ -564,7 +561,7 @@ impl Machine {
     {
         let registers = self.registers;
         let number = register_number(!registers.privileged());
-        let after = registers.or_where(number == 0, registers.with_mask(bits));
+        let after = registers.replaced_where(number == 0, registers.with_mask(bits));
         self.registers = after;
         Answered {
             number,
@@ -593,7 +590,7 @@ impl Machine {
     {
         let registers = self.registers;
         let number = mode_number(!(mode <= 1), !registers.privileged());
-        let after = registers.or_where(number == 0, registers.with_mode(mode_of(mode)));
+        let after = registers.replaced_where(number == 0, registers.with_mode(mode_of(mode)));
         self.registers = after;
         Answered {
             number,

@@ -10,7 +10,7 @@ use lib.Dec.{eqb, ltb}
 use lib.ListN.{length, getD, List·getD-eq-default}
 use native.Mathlib.Omega.{arith}
 use Rattle.rules.proofs.Decided.{and-both}
-use Rattle.planner.specs.Ancestors.{noParent, isParent, Ancestor, parent, above, Tells}
+use Rattle.planner.specs.Ancestors.{noParent, isParent, Ancestor, parent, above, Tells, reaches}
 
 -- what stands at a context's place, where it has a parent
 pub parent-stands : (list : List ℕ) (p k : ℕ) → isParent list p k ≡ true → (getD list k noParent ≡ p) × (p ≡ noParent → ⊥)
@@ -64,28 +64,23 @@ module _ (list : List ℕ) where
       go false e (inl short) = inl (over short (omega (arith, eqb-false a m e)) h)
       go false e (inr (low, high)) = inr (low, over high (omega (arith, eqb-false a m e)) h)
 
-  -- the test that follows these steps
-  unfoldable pub reaches : ℕ → (a k : ℕ) → Bool
-  reaches zero a k = isParent list a k
-  reaches (suc m) a k = reaches m a k || reaches m m k && reaches m a m
-
-  reaches-way : (m a k : ℕ) → reaches m a k ≡ true → Through m a k
+  reaches-way : (m a k : ℕ) → reaches list m a k ≡ true → Through m a k
   unfolding reaches
   reaches-way zero a k h = next h
   reaches-way (suc m) a k h =
       ⊎-elim (λ short. widen m (reaches-way m a k short))
       (λ both.
-      let each = and-both (reaches m m k) (reaches m a m) both in
+      let each = and-both (reaches list m m k) (reaches list m a m) both in
       join m (reaches-way m m k (each .0)) (reaches-way m a m (each .1)))
-      (either (reaches m a k) (reaches m m k && reaches m a m) h)
+      (either (reaches list m a k) (reaches list m m k && reaches list m a m) h)
 
-  way-reaches : (m a k : ℕ) → Through m a k → reaches m a k ≡ true
+  way-reaches : (m a k : ℕ) → Through m a k → reaches list m a k ≡ true
   unfolding reaches
   way-reaches zero a k (next h) = h
   way-reaches zero a k (over way below h) = absurd (omega arith)
   way-reaches (suc m) a k way =
       ⊎-elim (λ short. rw (way-reaches m a k short))
-      (λ both. rw (way-reaches m m k (both .0), way-reaches m a m (both .1)) (or-true (reaches m a k)))
+      (λ both. rw (way-reaches m m k (both .0), way-reaches m a m (both .1)) (or-true (reaches list m a k)))
       (split m way)
 
   -- between two contexts there are only contexts of the list, since each has a parent
@@ -98,7 +93,7 @@ module _ (list : List ℕ) where
   way-ancestor m (over way below h) = above (way-ancestor m way) h
 
   -- RULES 11.2: so there is a test that tells the ancestors of the list, whatever the list is
-  pub ancestry-told : Tells list (reaches (length list))
+  pub ancestry-told : Tells list (reaches list (length list))
   ancestry-told a k =
       (λ h. way-ancestor (length list) (reaches-way (length list) a k h), λ h. way-reaches (length list) a k (ancestor-way h))
 

@@ -10,10 +10,10 @@ use lib.Dec.{eqb, ltb}
 use lib.ListN.{length}
 use native.Mathlib.Omega.{arith}
 use Rattle.rules.specs.Refusals.{pick}
-use Rattle.planner.specs.Ancestors.{Ancestor, Tells}
+use Rattle.planner.specs.Ancestors.{Ancestor, Tells, reaches}
 use Rattle.planner.specs.Plan.{each, setBelow, globalContext, contextsOf}
 use Rattle.planner.specs.Ways.{ends, marked}
-use Rattle.planner.proofs.Ancestry.{reaches, ancestry-told, told-alike, either, alike}
+use Rattle.planner.proofs.Ancestry.{ancestry-told, told-alike, either, alike}
 use Rattle.planner.proofs.Each.{each-same, pad-each}
 use Rattle.planner.proofs.Forests.{someones-parent}
 use Rattle.planner.proofs.Found.{Listed, own-place, not-found}

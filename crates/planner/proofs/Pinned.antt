@@ -10,10 +10,10 @@ use Rattle.rules.specs.Domains.{domainBit}
 use Rattle.rules.specs.Refusals.{pick}
 use Rattle.machine.specs.Calls.{any}
 use Rattle.image.specs.Description.{pad}
-use Rattle.planner.specs.Ancestors.{isParent, Ancestor, parent, above, Tells}
+use Rattle.planner.specs.Ancestors.{isParent, Ancestor, parent, above, Tells, reaches}
 use Rattle.planner.specs.Plan.{each, setBelow, setOf, planChecks, plannedOf}
 use Rattle.planner.specs.declared.Planned.{Planned}
-use Rattle.planner.proofs.Ancestry.{reaches, ancestry-told}
+use Rattle.planner.proofs.Ancestry.{ancestry-told}
 use Rattle.planner.proofs.Found.{never}
 use Rattle.planner.proofs.Plans.{plan-one}
 use Rattle.planner.proofs.Rings.{row, ring}

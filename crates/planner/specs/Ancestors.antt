@@ -1,11 +1,11 @@
 -- The contexts of a list, their parents and their ancestors (RULES 11.1, 11.2).
-use Prim.Native.Nat.{ℕ}
+use Prim.Native.Nat.{ℕ, zero, suc}
 use mathlib.Core.Path.{_≡_}
-use mathlib.Core.Bool.{Bool, true, not, _&&_}
+use mathlib.Core.Bool.{Bool, true, not, _&&_, _||_}
 use mathlib.Core.List.{List}
 use mathlib.Core.Logic.{_↔_}
 use lib.Dec.{eqb}
-use lib.ListN.{getD}
+use lib.ListN.{getD, length}
 
 -- RULES 11.1: what stands in the list for a context that has no parent
 abbrev pub noParent : ℕ
@@ -24,3 +24,8 @@ pub data Ancestor (list : List ℕ) : (a k : ℕ) → Type 0 where
 -- test, whichever it is: nothing is said of how an ancestor is found.
 abbrev pub Tells : List ℕ → (isAncestor : ℕ → ℕ → Bool) → Type 0
 Tells list isAncestor = (a k : ℕ) → (isAncestor a k ≡ true) ↔ Ancestor list a k
+
+-- a is reached from k, parent by parent, through contexts below m
+unfoldable pub reaches : List ℕ → ℕ → (a k : ℕ) → Bool
+reaches list zero a k = isParent list a k
+reaches list (suc m) a k = reaches list m a k || reaches list m m k && reaches list m a m

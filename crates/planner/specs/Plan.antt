@@ -8,7 +8,7 @@ use Rattle.rules.specs.Domains.{withBit}
 use Rattle.rules.specs.Refusals.{Check, _⇒_, first, pick}
 use Rattle.machine.specs.Calls.{any}
 use Rattle.image.specs.Description.{pad}
-use Rattle.planner.specs.Ancestors.{noParent}
+use Rattle.planner.specs.Ancestors.{noParent, reaches}
 use Rattle.planner.specs.declared.Planned.{Planned}
 
 module _ {A : Type 0} where
@@ -55,3 +55,7 @@ unfoldable pub plannedOf : List ℕ → (isAncestor : ℕ → ℕ → Bool) → 
 plannedOf list isAncestor =
     let number = first (planChecks list isAncestor) in
     record { number = number; contexts = pick (eqb number 0) (contextsOf isAncestor (length list)) (replicate 16 0) }
+
+-- RULES 11: the plan of a list
+unfoldable pub planOf : List ℕ → Planned
+planOf list = plannedOf list (reaches list (length list))

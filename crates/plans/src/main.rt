@@ -7,11 +7,9 @@ use libc::STDOUT_FILENO;
 use planner::Planned;
 use planner::plan;
 ghost use mathlib.Core.Path.{_≡_};
-ghost use mathlib.Core.Bool.{Bool};
-ghost use Prim.Native.Nat.{ℕ, _≤_};
+ghost use Prim.Native.Nat.{_≤_};
 ghost use lib.ListN.{length};
-ghost use Rattle.planner.specs.Ancestors.{Tells};
-ghost use Rattle.planner.specs.Plan.{plannedOf};
+ghost use Rattle.planner.specs.Plan.{planOf};
 
 // Prints contexts in hexadecimal, a space before each, and ends the line; answers how many they are.
 fn print_contexts(contexts: &[u16]) -> usize
@@ -29,7 +27,7 @@ fn print_contexts(contexts: &[u16]) -> usize
 
 // Plans a list, prints the plan, and hands it back.
 fn print_plan(list: &[u8], which: u64) -> Planned
-    ensures { λ r. ⌜ ((isAncestor : ℕ → ℕ → Bool) → Tells (now (list .entry)) isAncestor → r ≡ plannedOf (now (list .entry)) isAncestor) ⌝ }
+    ensures { λ r. ⌜ r ≡ planOf (now (list .entry)) ⌝ }
 {
     let planned = plan(list);
     io::print_decimal(STDOUT_FILENO, which);

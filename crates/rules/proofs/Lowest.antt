@@ -2,20 +2,20 @@
 -- the lowest-numbered one that a field and a local context both hold. By induction on the digits: those below the lowest set one are 0, and it is 1.
 use Prim.Native.Nat.{ℕ, zero, suc, _+_, _-_, _*_, _/_, _%_, _^_, _<_}
 use mathlib.Core.Path.{_≡_, refl, sym, ap, _∙_}
-use mathlib.Core.Bool.{Bool, true, false, not, _&&_, _||_, Bool·beq, true≢false}
+use mathlib.Core.Bool.{Bool, true, false, not, _&&_, _||_, or-false, Bool·beq, true≢false}
 use borrow.Author.Tests.{eqb-true, eqb-false, ne-eqb, ltb-true, ltb-false}
-use lib.Bits.{bitAnd, bitOr, and-le-r, and-mask, and-high, and-mod, and-shr, or-mod, or-shr}
+use lib.Bits.{bitAnd, bitOr, and-le-r, and-mask, and-high, and-mod, and-shr, or-lt, or-mod, or-shr}
 use lib.Count.{trailingZeros, under}
 use lib.Dec.{eqb, ltb}
 use lib.Pow.{pow-pos, pow-add}
 use native.Mathlib.Nat.{pow-suc, pow-succ', div-div-eq-div-mul, div-one, zero-mul, suc-mul}
 use native.Mathlib.Omega.{arith}
-use Rattle.rules.specs.Domains.{domainBit, holds, prevailing, givingDomain}
+use Rattle.rules.specs.Domains.{domainBit, holds, withBit, withoutBit, prevailing, givingDomain}
 use Rattle.rules.specs.Refusals.{pick}
 use Rattle.rules.specs.declared.domains.Prevailing.the-variants.{Absent, At}
 use Rattle.rules.proofs.Bits.{digit, every, every-holds}
 use Rattle.rules.proofs.Decided.{and-both}
-use Rattle.rules.proofs.Laws.{domain-bit, no-domain-held}
+use Rattle.rules.proofs.Laws.{domain-bit, no-domain-bit, no-domain-held, no-domain-changed}
 
 halved : (n s : ℕ) → n / 2 ^ suc s ≡ n / 2 / 2 ^ s
 halved n s = ap (λ (x : ℕ). n / x) (pow-succ' 2 s) ∙ sym (div-div-eq-div-mul n 2 (2 ^ s))
@@ -101,17 +101,17 @@ held-either =
     made-held bitOr _||_ or-shr or-mod
     (two-digits (λ x y. not (eqb (bitOr x y) 0) ≡ not (eqb x 0) || not (eqb y 0)) refl refl refl refl) refl
 
+same : (a b : Bool) → Bool·beq a b ≡ true → a ≡ b
+same true true h = refl
+same true false h = sym h
+same false true h = h
+same false false h = refl
+
 -- the bit of a domain holds that domain and no other
 pub bit-held : (d s : ℕ) → d < 16 → holds (domainBit d) s ≡ eqb s d
 unfolding domainBit every
 bit-held d s known = split (ltb s 16) refl
   where
-    same : (a b : Bool) → Bool·beq a b ≡ true → a ≡ b
-    same true true h = refl
-    same true false h = sym h
-    same false true h = h
-    same false false h = refl
-
     split : (b : Bool) → ltb s 16 ≡ b → holds (domainBit d) s ≡ eqb s d
     split true e =
         same (holds (domainBit d) s) (eqb s d)
@@ -120,6 +120,50 @@ bit-held d s known = split (ltb s 16) refl
     split false e =
         let past = ltb-false s 16 e in
         rw (no-domain-held (domainBit d) s past, ne-eqb s d (omega arith))
+
+-- all sixteen domains but one, or all where it is none
+rest-held : (d s : ℕ) → holds (65535 - domainBit d) s ≡ ltb s 16 && not (ltb d 16 && eqb s d)
+unfolding domainBit every
+rest-held d s = split (ltb s 16) refl (ltb d 16) refl
+  where
+    split : (b : Bool) → ltb s 16 ≡ b → (c : Bool) → ltb d 16 ≡ c → holds (65535 - domainBit d) s ≡ b && not (c && eqb s d)
+    split true e true f =
+        same (holds (65535 - domainBit d) s) (not (eqb s d))
+        (every-holds 16 (λ n. Bool·beq (holds (65535 - domainBit d) n) (not (eqb n d)))
+        (every-holds 16 (λ k. every 16 (λ n. Bool·beq (holds (65535 - domainBit k) n) (not (eqb n k)))) refl d (ltb-true d 16 f)) s (ltb-true s 16 e))
+    split true e false f = rw (no-domain-bit d (ltb-false d 16 f)) (every-holds 16 (holds 65535) refl s (ltb-true s 16 e))
+    split false e c f = no-domain-held (65535 - domainBit d) s (ltb-false s 16 e)
+
+-- RULES 3.5: after a grant to s a field holds s and what it held before, whichever these are, and nothing else; what is no domain is granted nothing
+pub granted-holds : (field s t : ℕ) → holds (withBit field s) t ≡ holds field t || ltb s 16 && eqb t s
+granted-holds field s t = split (ltb s 16) refl
+  where
+    split : (b : Bool) → ltb s 16 ≡ b → holds (withBit field s) t ≡ holds field t || b && eqb t s
+    split true e = held-either field (domainBit s) t ∙ ap (λ (b : Bool). holds field t || b) (bit-held s t (ltb-true s 16 e))
+    split false e = rw (no-domain-changed field s (ltb-false s 16 e) .0) (sym (or-false (holds field t)))
+
+-- RULES 3.7: after a revocation from s a field holds what it held before but s
+pub revoked-holds : (field s t : ℕ) → holds (withoutBit field s) t ≡ holds field t && not (ltb s 16 && eqb t s)
+revoked-holds field s t =
+    held-both field (65535 - domainBit s) t ∙ rw (rest-held s t) (split (ltb t 16) refl)
+  where
+    split : (b : Bool) → ltb t 16 ≡ b → holds field t && (b && not (ltb s 16 && eqb t s)) ≡ holds field t && not (ltb s 16 && eqb t s)
+    split true e = refl
+    split false e = rw (no-domain-held field t (ltb-false t 16 e))
+
+bit-fits : (s : ℕ) → domainBit s < 65536
+unfolding domainBit every
+bit-fits s = split (ltb s 16) refl
+  where
+    split : (b : Bool) → ltb s 16 ≡ b → domainBit s < 65536
+    split true e = ltb-true _ _ (every-holds 16 (λ n. ltb (domainBit n) 65536) refl s (ltb-true s 16 e))
+    split false e = rw (no-domain-bit s (ltb-false s 16 e)) (omega arith)
+
+-- and either leaves a number of 16 bits
+pub changed-fits : (field s : ℕ) → (field < 65536 → withBit field s < 65536) × (withoutBit field s < 65536)
+changed-fits field s =
+    let bit = bit-fits s in
+    (λ small. or-lt 16 field (domainBit s) small bit, omega (arith, and-le-r field (65535 - domainBit s)))
 
 pub both-held : (one two s : ℕ) → holds (bitAnd one two) s ≡ true → (holds one s ≡ true) × (holds two s ≡ true)
 both-held one two s h = and-both (holds one s) (holds two s) (sym (held-both one two s) ∙ h)

@@ -55,7 +55,7 @@ pub fn with_bit(field: u16, s: u16) -> u16
 pub fn without_bit(field: u16, s: u16) -> u16
     ensures { λ r. ⌜ r ≡ withoutBit field s ⌝ }
 {
-    field & (65535 - domain_bit(s))
+    field & !domain_bit(s)
 }
 
 // The lowest-numbered domain of the whole field (RULES 1.8).

@@ -108,7 +108,7 @@ impl Registers {
     }
 
     // These registers, or others where a call was accepted.
-    pub fn or_where(self, done: bool, others: Registers) -> Registers
+    pub fn replaced_where(self, done: bool, others: Registers) -> Registers
         ensures { λ r. ⌜ r ≡ pick done others self ⌝ }
     {
         if done { others } else { self }
@@ -124,7 +124,7 @@ pub fn replace_mask(registers: Registers, mask: u16) -> Masked
         registers.pending,
         mask & registers.context == 0,
     );
-    let after = registers.or_where(number == 0, registers.with_mask(mask));
+    let after = registers.replaced_where(number == 0, registers.with_mask(mask));
     Masked {
         number,
         registers: after,

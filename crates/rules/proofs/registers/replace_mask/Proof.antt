@@ -9,7 +9,7 @@ unfolding maskedOf
 returns c =
     let asking : tie.After-privileged = (search) in
     let numbering : tie.After-mask-number = (search) in
-    rw (c .or-where .ensures, c .before .with-mask .ensures, numbering .mask-number .ensures, asking .privileged .ensures)
+    rw (c .replaced-where .ensures, c .before .with-mask .ensures, numbering .mask-number .ensures, asking .privileged .ensures)
 
 pub replace-mask-spec : {M : Type 1} → statement M
 replace-mask-spec = tie.close (tie.spec (search needs) (search needs) (search needs) (search needs) returns)

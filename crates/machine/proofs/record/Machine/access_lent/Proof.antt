@@ -16,22 +16,21 @@ returns : tie.Need-returns
 unfolding checksOf
 returns c =
     let start : tie.Start = (search) in
-    let numbering : tie.After-access-at = (search) in
-    let choosing : tie.After-or-where = (search) in
+    let numbering : tie.After-number-of-access = (search) in
     let reading : tie.After-field-at = (search) in
     let asking : tie.After-privileged = (search) in
     let local : tie.After-local = (search) in
-    let naming : tie.After-name-where = (search) in
+    let naming : tie.After-report-through = (search) in
     let a = start .args in
-    let n = numbering .access-at .result in
+    let n = numbering .number-of-access .result in
     ap (keeping (a .self))
     (access-answered (withFields (a .fields .now) (a .self)) (a .width) (a .right) (a .address)
-    (numbering .access-at .ensures)
-    (rw (choosing .or-where .ensures, choosing .before .with-pending .ensures))
-    (⊎-elim (λ w. ap (λ (v : Violations). v .last) (w .1) ∙ rw (eq-eqb n 9 (w .0 .taken))) (λ w. ap (λ (v : Violations). v .last) (w .1) ∙ rw (ne-eqb n 9 (w .0 .left)))
+    (numbering .number-of-access .ensures)
+    (⊎-elim (λ w. w .2 ∙ w .1 .ensures ∙ rw (eq-eqb n 9 (w .0 .taken))) (λ w. w .1 ∙ rw (ne-eqb n 9 (w .0 .left))) (c .if1 .came))
+    (⊎-elim (λ w. ap (λ (v : Violations). v .last) (w .3) ∙ rw (eq-eqb n 9 (w .0 .taken))) (λ w. ap (λ (v : Violations). v .last) (w .2) ∙ rw (ne-eqb n 9 (w .0 .left)))
     (c .if1 .came))
-    (naming .name-where .ensures ∙ rw (reading .field-at .ensures, add-zero (a .address), local .local .ensures, asking .privileged .ensures)))
+    (naming .report-through .ensures ∙ rw (reading .field-at .ensures, add-zero (a .address), local .local .ensures, asking .privileged .ensures)))
 
 pub access-lent-spec : {M : Type 1} → statement M
 access-lent-spec = tie.close (tie.spec (λ c κs. search needs) (λ c κs. search needs) (λ c κs. search needs) (λ c κs. search needs) (λ c κs. search needs) (λ c κs. search needs)
-    (λ c κs. search needs) returns)
+    returns)

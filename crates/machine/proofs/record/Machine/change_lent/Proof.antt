@@ -14,14 +14,14 @@ returns c =
     let start : tie.Start = (search) in
     let placing : tie.After-place = (search) in
     let reading : tie.After-read-field = (search) in
-    let numbering : tie.After-change-number = (search) in
+    let numbering : tie.After-number-of-change = (search) in
     let changing : tie.After-changed-bits = (search) in
     let choosing : tie.After-chosen = (search) in
     let writing : tie.After-write-field = (search) in
     let a = start .args in
     let answer =
     change-answered (withFields (a .fields .now) (a .self)) (a .right) (a .page) (a .domain) (a .granting) (reading .read-field .ensures)
-    (placing .place .ensures) (numbering .change-number .ensures) (rw (choosing .chosen .ensures, changing .changed-bits .ensures))
+    (placing .place .ensures) (numbering .number-of-change .ensures) (rw (choosing .chosen .ensures, changing .changed-bits .ensures))
     (writing .write-field .ensures) in
     (ap (λ (r : Answered). r .number) answer, ap (λ (r : Answered). r .machine .fields) answer)
 

@@ -4,7 +4,6 @@ use Rattle.rules.specs.Registers.{maskedOf}
 use Rattle.machine.specs.Calls.{checksOf, effectOf}
 use Rattle.machine.specs.declared.record.Call.the-variants.{SetMask}
 use Rattle.machine.proofs.Answers.{registers-answered}
-use Rattle.machine.proofs.MaskCommand.{mask-taken}
 use borrow.Author.Needs.{needs}
 use Rattle.machine.proofs.record.Machine.set_mask_unchecked.Statement.{statement}
 use Rattle.machine.proofs.record.Machine.set_mask_unchecked.Tie as tie
@@ -16,8 +15,7 @@ returns c =
     let replacing : tie.After-replace-mask = (search) in
     let a = start .args in
     let done = replacing .replace-mask .ensures in
-    registers-answered (a .self) (SetMask (a .mask)) (rw done) refl refl refl
-    (rw (c .or-where .ensures, done) (mask-taken (a .self .registers) (a .mask)))
+    registers-answered (a .self) (SetMask (a .mask)) (rw done) refl refl refl (rw done)
 
 pub set-mask-unchecked-spec : {M : Type 1} → statement M
-set-mask-unchecked-spec = tie.close (tie.spec (λ c κs. search needs) (λ c κs. search needs) returns)
+set-mask-unchecked-spec = tie.close (tie.spec (λ c κs. search needs) returns)

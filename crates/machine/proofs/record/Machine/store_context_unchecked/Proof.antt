@@ -15,7 +15,7 @@ returns c =
     let numbering : tie.After-register-number = (search) in
     let a = start .args in
     registers-answered (a .self) (StoreContext (a .bits)) (rw (numbering .register-number .ensures, asking .privileged .ensures)) refl refl refl
-    (rw (c .or-where .ensures, c .before .with-context .ensures))
+    (rw (c .replaced-where .ensures, c .before .with-context .ensures))
 
 pub store-context-unchecked-spec : {M : Type 1} → statement M
 store-context-unchecked-spec = tie.close (tie.spec (λ c κs. search needs) (λ c κs. search needs) (λ c κs. search needs) (λ c κs. search needs) returns)

@@ -16,7 +16,7 @@ returns c =
     let naming : tie.After-mode-of = (search) in
     let a = start .args in
     registers-answered (a .self) (StoreMode (a .mode)) (rw (numbering .mode-number .ensures, asking .privileged .ensures)) refl refl refl
-    (rw (c .or-where .ensures, c .before .with-mode .ensures, naming .mode-of .ensures))
+    (rw (c .replaced-where .ensures, c .before .with-mode .ensures, naming .mode-of .ensures))
 
 pub store-mode-unchecked-spec : {M : Type 1} → statement M
 store-mode-unchecked-spec = tie.close (tie.spec (λ c κs. search needs) (λ c κs. search needs) (λ c κs. search needs) (λ c κs. search needs) (λ c κs. search needs) returns)

@@ -1,8 +1,8 @@
--- `Machine::change_number` meets its contract: its tests are the conditions of the list, one by one.
+-- `Machine::number_of_change` meets its contract: its tests are the conditions of the list, one by one.
 use Rattle.machine.specs.Calls.{changeChecks}
 use borrow.Author.Needs.{needs}
-use Rattle.machine.proofs.record.Machine.change_number.Statement.{statement}
-use Rattle.machine.proofs.record.Machine.change_number.Tie as tie
+use Rattle.machine.proofs.record.Machine.number_of_change.Statement.{statement}
+use Rattle.machine.proofs.record.Machine.number_of_change.Tie as tie
 
 returns : tie.Need-returns
 unfolding changeChecks
@@ -20,5 +20,5 @@ returns c =
       prevailing .prevailing-of .ensures,
     )
 
-pub change-number-spec : {M : Type 1} → statement M
-change-number-spec = tie.close (tie.spec (λ c κs. search needs) (λ c κs. search needs) (λ c κs. search needs) (λ c κs. search needs) (λ c κs. search needs) (λ c κs. search needs) returns)
+pub number-of-change-spec : {M : Type 1} → statement M
+number-of-change-spec = tie.close (tie.spec (λ c κs. search needs) (λ c κs. search needs) (λ c κs. search needs) (λ c κs. search needs) (λ c κs. search needs) (λ c κs. search needs) returns)

@@ -1,8 +1,8 @@
--- `machine::calls::name_where` meets its contract, by whether a domain is named.
+-- `machine::calls::report_through` meets its contract, by whether a domain is named.
 use borrow.Author.Needs.{needs}
 use borrow.Author.Tests.{not-true, not-false}
-use Rattle.machine.proofs.calls.name_where.Statement.{statement}
-use Rattle.machine.proofs.calls.name_where.Tie as tie
+use Rattle.machine.proofs.calls.report_through.Statement.{statement}
+use Rattle.machine.proofs.calls.report_through.Tie as tie
 
 returns : tie.Need-returns
 returns c = let start : tie.Start = (search) in rw (not-true (start .args .done) (c .if1 .taken))
@@ -12,5 +12,5 @@ returns-2 c =
     let start : tie.Start = (search) in
     rw (not-false (start .args .done) (c .before .if1 .left), c .giving-domain .ensures)
 
-pub name-where-spec : {M : Type 1} → statement M
-name-where-spec = tie.close (tie.spec returns (λ c κs. search needs) returns-2)
+pub report-through-spec : {M : Type 1} → statement M
+report-through-spec = tie.close (tie.spec returns (λ c κs. search needs) returns-2)
