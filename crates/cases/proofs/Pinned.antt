@@ -16,7 +16,8 @@ use Rattle.image.specs.Load.{loadOf, loadChecks, lengthTests, kindTests, shapeE
 use Rattle.image.specs.Sample.{sampleBytes}
 use Rattle.image.specs.Write.{descriptionOf, writeChecks, writtenBytes, writtenOf}
 use Rattle.image.proofs.Pinned.{nothing}
-use Rattle.run.specs.Records.{callOfKind, callsOf, stepBy}
+use Rattle.run.specs.Records.{callOfKind, callsOf, stepBy, stepOf}
+use Rattle.run.specs.declared.records.Decoded.{Decoded}
 use Rattle.run.specs.declared.records.Decoded.the-variants.{Known, Unknown}
 use Rattle.cases.specs.Writing.{roomOf, digitOf, digitsOf, machineAfter, heldOf, againOf, rewrittenOf}
 
@@ -45,6 +46,12 @@ pub calls-followed :
     × (machineAfter m (Known Enter ∷ Known (SetMask 7) ∷ []) ≡ small 1 1 Privileged)
 unfolding machineAfter stepBy callOf checksOf effectOf entered after isSound
 calls-followed = (refl, refl, refl)
+
+-- calls on any machine, one step: whatever the answer, the next one is made on the machine that it left
+pub call-followed : (m : Machine) (call : Decoded) (rest : List Decoded)
+    → (machineAfter m [] ≡ m) × (machineAfter m (call ∷ rest) ≡ machineAfter (stepOf m call .machine) rest)
+unfolding machineAfter
+call-followed m call rest = (refl, refl)
 
 -- the sample node, by its live and its stored mask of program 0 and the flag
 abbrev node : ℕ → ℕ → Bool → Machine

@@ -6,8 +6,8 @@ use mathlib.Core.Path.{_≡_, refl}
 use mathlib.Core.Bool.{Bool, true, false}
 use borrow.Author.Tests.{leb-true}
 use native.Mathlib.Omega.{arith}
-use lib.Dec.{leb}
-use lib.ListN.{length}
+use lib.Dec.{eqb, leb}
+use lib.ListN.{length, getD}
 use Rattle.rules.specs.Refusals.{pick}
 use Rattle.cases.specs.Cases.{isWriting, endOf, nextOf}
 
@@ -39,3 +39,7 @@ pub writing-kinds :
     (isWriting (1 ∷ 0 ∷ 0 ∷ 0 ∷ []) 0 ≡ true)
     × (map (isWriting (0 ∷ 1 ∷ 0 ∷ 0 ∷ 2 ∷ 255 ∷ 0 ∷ 1 ∷ [])) (0 ∷ 1 ∷ 4 ∷ 5 ∷ 8 ∷ []) ≡ false ∷ true ∷ false ∷ false ∷ false ∷ [])
 writing-kinds = (refl, refl)
+
+-- of any bytes and at any place
+pub writing-exactly : (bytes : List ℕ) (at : ℕ) → isWriting bytes at ≡ eqb (getD bytes at 0) 1
+writing-exactly bytes at = refl

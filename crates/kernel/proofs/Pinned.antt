@@ -1,9 +1,11 @@
 -- What the definitions of this crate come to on a written node of one page and two programs: all is computed and written out.
 use mathlib.Core.Path.{_≡_, refl}
 use mathlib.Core.Bool.{Bool, true, false}
-use mathlib.Core.List.{[], _∷_, map}
-use Prim.Native.Nat.{ℕ}
+use mathlib.Core.List.{List, [], _∷_, map}
+use Prim.Native.Nat.{ℕ, _+_}
+use lib.Dec.{eqb}
 use lib.ListN.{replicate}
+use Rattle.rules.specs.Refusals.{pick}
 use Rattle.rules.specs.declared.registers.Mode.the-variants.{User}
 use Rattle.machine.specs.Machine.{isSound, withLast}
 use Rattle.machine.specs.Calls.{callOf, checksOf, accessChecks, effectOf, entered, returned, switched, after}
@@ -14,6 +16,7 @@ use Rattle.machine.specs.declared.record.Width.the-variants.{One, Two}
 use Rattle.machine.specs.declared.record.Call.the-variants.{Access, Grant, Revoke, SetMask, Enter, Return, Switch}
 use Rattle.machine.proofs.Written.{stored, live, denied, whole}
 use Rattle.kernel.specs.Kernel.{callFor, begunOf, servedOf}
+use Rattle.kernel.specs.declared.Request.{Request}
 use Rattle.kernel.specs.declared.Request.the-variants.{Read, Write, GrantRight, RevokeRight, ReplaceMask}
 
 -- the call of each request, whatever its arguments
@@ -70,3 +73,15 @@ pub requests-served :
     × (servedOf (node 0 false) [] ≡ record { refused = 0; machine = node 0 false })
 unfolding servedOf callOf checksOf accessChecks effectOf after isSound
 requests-served = (refl, refl)
+
+-- requests on any machine, one step: whatever the answer, the next one is made on the machine that it left, and only an answer that is not 0 is counted
+pub served-step : (m : Machine) (request : Request) (rest : List Request)
+    → let answer = callOf m (callFor request) in
+    (servedOf m [] ≡ record { refused = 0; machine = m })
+    × (servedOf m (request ∷ rest)
+    ≡ record {
+      refused = pick (eqb (answer .number) 0) 0 1 + servedOf (answer .machine) rest .refused;
+      machine = servedOf (answer .machine) rest .machine;
+    })
+unfolding servedOf
+served-step m request rest = (refl, refl)

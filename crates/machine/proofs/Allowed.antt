@@ -137,22 +137,22 @@ module _ (m : Machine) (width : Width) (right address : ℕ) where
   all-inside : address + bytes width ≤ m .pages * size → any (isOutsideMemory m) (touched width address) ≡ false
   all-inside within = none-met (isOutsideMemory m) width address (λ byte t. lt-leb (memorySize m) byte (omega (arith, within, t .1)))
 
-  given-number : {n : ℕ} → AccessGives m width right address n → numberOf m (Access width right address) ≡ n
+  number-given : {n : ℕ} → AccessGives m width right address n → numberOf m (Access width right address) ≡ n
   unfolding checksOf accessChecks
-  given-number (unsound e) = rw e
-  given-number (no-right sound unknown) = rw (sound, lt-leb right 1 unknown)
-  given-number (outside sound known past) =
+  number-given (unsound e) = rw e
+  number-given (no-right sound unknown) = rw (sound, lt-leb right 1 unknown)
+  number-given (outside sound known past) =
       let touches = last-touched width address in
       let last = le-leb (memorySize m) (address + bytes width - 1) (omega (arith, past, touches .1)) in
       rw (sound, le-leb right 1 known, some-meets (isOutsideMemory m) width address _ touches last)
-  given-number (pending sound known within user flag) = rw (sound, le-leb right 1 known, all-inside within, user, flag)
-  given-number (denied sound known within user clear byte touches apart) =
+  number-given (pending sound known within user flag) = rw (sound, le-leb right 1 known, all-inside within, user, flag)
+  number-given (denied sound known within user clear byte touches apart) =
       rw (sound, le-leb right 1 known, all-inside within, user, clear, some-meets (isDenied m right) width address byte touches apart)
-  given-number (done sound a) = allows sound a
+  number-given (done sound a) = allows sound a
 
-  one-given : (n : ℕ) × AccessGives m width right address n
+  some-number-given : (n : ℕ) × AccessGives m width right address n
   unfolding checksOf accessChecks
-  one-given =
+  some-number-given =
       split (isSound m) refl (leb right 1) refl (any (isOutsideMemory m) (touched width address)) refl (inPrivilegedMode m) refl (m .registers .pending) refl
       (any (isDenied m right) (touched width address)) refl
     where
@@ -174,5 +174,5 @@ module _ (m : Machine) (width : Width) (right address : ℕ) where
   pub access-number-exactly : (n : ℕ) → (callOf m (Access width right address) .number ≡ n) ↔ AccessGives m width right address n
   unfolding callOf
   access-number-exactly n =
-      let one = one-given in
-      ((λ e. subst (AccessGives m width right address) (sym (given-number (one .1)) ∙ e) (one .1)), given-number)
+      let one = some-number-given in
+      ((λ e. subst (AccessGives m width right address) (sym (number-given (one .1)) ∙ e) (one .1)), number-given)

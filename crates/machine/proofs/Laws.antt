@@ -10,7 +10,7 @@ use lib.Bits.{bitAnd}
 use lib.Dec.{eqb}
 use lib.ListN.{getD}
 use Rattle.rules.specs.Registers.{localContext, withPending}
-use Rattle.rules.specs.Refusals.{_⇒_, first, pick}
+use Rattle.rules.specs.Refusals.{Check, _⇒_, first, pick}
 use Rattle.machine.specs.Machine.{isRight, isSound, memorySize, fieldOf, violationFits, noProgram, withRegisters, withLast}
 use Rattle.machine.specs.Calls.{callOf, answerBy, silent, checksOf, accessChecks, changeChecks, effectOf, entered, returned, switched, lastAfterViolation, handedOut, reportOf, inPrivilegedMode, inUserMode, isDenied, isOutsideMemory, numberOf, touched, any, after, violated}
 use Rattle.machine.specs.Listed.{isIn, listed, ownNumbers, soundNumbers}
@@ -49,6 +49,27 @@ number-listed m call = split (isSound m)
         more (eqb (first (checksOf m call)) 0) (eqb (first (checksOf m call)) 1) (isIn (first (checksOf m call)) (ownNumbers call))
         (own-number m call)
     split false = refl
+
+-- the numbers of a list of conditions
+abbrev numbers : List Check → List ℕ
+numbers [] = []
+numbers ((met ⇒ number) ∷ rest) = number ∷ numbers rest
+
+-- RULES 9.1: in user mode a call has exactly the conditions whose numbers are listed for it, in their order (in privileged mode an access has two less)
+pub row-listed : (m : Machine) (call : Call) → inPrivilegedMode m ≡ false → numbers (checksOf m call) ≡ ownNumbers call
+unfolding checksOf accessChecks changeChecks
+row-listed m (Access width right address) user = rw user
+row-listed m (Grant right page s) user = refl
+row-listed m (Revoke right page s) user = refl
+row-listed m (SetMask bits) user = refl
+row-listed m Enter user = refl
+row-listed m Return user = refl
+row-listed m (Switch program) user = refl
+row-listed m (StoreField right page bits) user = refl
+row-listed m (StoreContext bits) user = refl
+row-listed m (StoreMask bits) user = refl
+row-listed m (StoreMode mode) user = refl
+row-listed m AskViolation user = refl
 
 -- RULES 2.4: 1 is answered where the machine is not sound, and nowhere else
 pub one-exactly : (m : Machine) (call : Call) → eqb (callOf m call .number) 1 ≡ not (isSound m)

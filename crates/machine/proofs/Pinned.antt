@@ -409,12 +409,12 @@ pub kept-back :
     })
 kept-back = refl
 
--- modes of a machine, and the grant and the revocation that a flag tells apart
-pub told-apart :
-    (inPrivilegedMode one-machine ∷ inUserMode one-machine ∷ inPrivilegedMode zero ∷ inUserMode zero ∷ [] ≡ true ∷ false ∷ false ∷ true ∷ [])
-    × (changeCall true 1 (record { 0 = 2 }) (record { 0 = 3 }) ∷ changeCall false 1 (record { 0 = 2 }) (record { 0 = 3 }) ∷ []
-    ≡ Grant 1 (record { 0 = 2 }) (record { 0 = 3 }) ∷ Revoke 1 (record { 0 = 2 }) (record { 0 = 3 }) ∷ [])
-told-apart = (refl, refl)
+-- modes of a machine, and the grant and the revocation that a flag tells apart, of any right, page and domain
+pub told-apart : (right : ℕ) (page : Page) (s : Domain)
+    → (inPrivilegedMode one-machine ∷ inUserMode one-machine ∷ inPrivilegedMode zero ∷ inUserMode zero ∷ [] ≡ true ∷ false ∷ false ∷ true ∷ [])
+    × (changeCall true right page s ≡ Grant right page s)
+    × (changeCall false right page s ≡ Revoke right page s)
+told-apart right page s = (refl, refl, refl)
 
 -- the machine after a call: the effect on 0, flag and last violation on 9, the machine before it on every other number
 pub after-numbers :

@@ -10,7 +10,7 @@ use lib.Dec.{eqb, ltb}
 use lib.ListN.{length, getD, List·getD-eq-default}
 use native.Mathlib.Omega.{arith}
 use Rattle.rules.proofs.Decided.{and-both}
-use Rattle.planner.specs.Ancestors.{noParent, isParent, Ancestor, parent, above, Tells, reaches}
+use Rattle.planner.specs.Ancestors.{noParent, isParent, Ancestor, parent, above, Tells, reaches, isAncestor}
 
 -- what stands at a context's place, where it has a parent
 pub parent-stands : (list : List ℕ) (p k : ℕ) → isParent list p k ≡ true → (getD list k noParent ≡ p) × (p ≡ noParent → ⊥)
@@ -92,8 +92,8 @@ module _ (list : List ℕ) where
   way-ancestor m (next h) = parent h
   way-ancestor m (over way below h) = above (way-ancestor m way) h
 
-  -- RULES 11.2: so there is a test that tells the ancestors of the list, whatever the list is
-  pub ancestry-told : Tells list (reaches list (length list))
+  -- RULES 11.2: so the test tells the ancestors of the list, whatever the list is
+  pub ancestry-told : Tells list (isAncestor list)
   ancestry-told a k =
       (λ h. way-ancestor (length list) (reaches-way (length list) a k h), λ h. way-reaches (length list) a k (ancestor-way h))
 

@@ -11,9 +11,9 @@ use lib.ListN.{length, getD}
 use native.Mathlib.Omega.{arith}
 use Rattle.rules.proofs.Decided.{and-both}
 use Rattle.machine.specs.Calls.{any}
-use Rattle.planner.specs.Ancestors.{noParent, isParent, Ancestor, parent, above, Tells}
+use Rattle.planner.specs.Ancestors.{noParent, isParent, Ancestor, parent, above, isAncestor}
 use Rattle.planner.specs.Plan.{each, isCount, isMissing}
-use Rattle.planner.proofs.Ancestry.{parent-stands, has-place}
+use Rattle.planner.proofs.Ancestry.{ancestry-told, parent-stands, has-place}
 use Rattle.planner.proofs.Each.{each-at, each-length}
 use Rattle.planner.proofs.Numbers.{count-exactly}
 
@@ -79,18 +79,17 @@ own-place list (parent {p} {k} h) = has-place list p k h
 own-place list (above low h) = own-place list low
 
 -- RULES 11.4: a context that is its own ancestor
-pub cycle-found : (list : List ℕ) (isAncestor : ℕ → ℕ → Bool) → Tells list isAncestor
-    → (any (λ k. isAncestor k k) (each (length list) (λ k. k)) ≡ true) ↔ ((k : ℕ) × Ancestor list k k)
-cycle-found list isAncestor told = (there, back)
+pub cycle-found : (list : List ℕ) → (any (λ k. isAncestor list k k) (each (length list) (λ k. k)) ≡ true) ↔ ((k : ℕ) × Ancestor list k k)
+cycle-found list = (there, back)
   where
-    there : any (λ k. isAncestor k k) (each (length list) (λ k. k)) ≡ true → (k : ℕ) × Ancestor list k k
+    there : any (λ k. isAncestor list k k) (each (length list) (λ k. k)) ≡ true → (k : ℕ) × Ancestor list k k
     there found =
-        let at = any-found (λ k. isAncestor k k) 0 (each (length list) (λ k. k)) found in
+        let at = any-found (λ k. isAncestor list k k) 0 (each (length list) (λ k. k)) found in
         let k = getD (each (length list) (λ k. k)) (at .0) 0 in
-        (k, told k k .0 (at .2))
+        (k, ancestry-told list k k .0 (at .2))
 
-    back : (k : ℕ) × Ancestor list k k → any (λ k. isAncestor k k) (each (length list) (λ k. k)) ≡ true
+    back : (k : ℕ) × Ancestor list k k → any (λ k. isAncestor list k k) (each (length list) (λ k. k)) ≡ true
     back (k, way) =
         let below = own-place list way in
-        any-met (λ k. isAncestor k k) 0 (each (length list) (λ k. k)) k (rw (each-length (length list) (λ k. k)) below)
-        (rw (each-at 0 (length list) (λ k. k) k below) (told k k .1 way))
+        any-met (λ k. isAncestor list k k) 0 (each (length list) (λ k. k)) k (rw (each-length (length list) (λ k. k)) below)
+        (rw (each-at 0 (length list) (λ k. k) k below) (ancestry-told list k k .1 way))

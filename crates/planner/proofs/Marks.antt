@@ -10,10 +10,10 @@ use lib.Dec.{eqb, ltb}
 use lib.ListN.{length}
 use native.Mathlib.Omega.{arith}
 use Rattle.rules.specs.Refusals.{pick}
-use Rattle.planner.specs.Ancestors.{Ancestor, Tells, reaches}
+use Rattle.planner.specs.Ancestors.{Ancestor, isAncestor}
 use Rattle.planner.specs.Plan.{each, setBelow, globalContext, contextsOf}
 use Rattle.planner.specs.Ways.{ends, marked}
-use Rattle.planner.proofs.Ancestry.{ancestry-told, told-alike, either, alike}
+use Rattle.planner.proofs.Ancestry.{ancestry-told, either, alike}
 use Rattle.planner.proofs.Each.{each-same, pad-each}
 use Rattle.planner.proofs.Forests.{someones-parent}
 use Rattle.planner.proofs.Found.{Listed, own-place, not-found}
@@ -22,7 +22,7 @@ use Rattle.planner.proofs.Ways.{onWay, marked-each, way-exactly}
 
 -- a is j or an ancestor of it
 abbrev pub within : List ℕ → (a j : ℕ) → Bool
-within list a j = eqb j a || reaches list (length list) a j
+within list a j = eqb j a || isAncestor list a j
 
 -- what is gathered of the first k contexts
 abbrev pub gathered : List ℕ → (k : ℕ) → List ℕ
@@ -30,7 +30,7 @@ gathered list k = each 16 (λ a. setBelow k (within list a))
 
 module _ (list : List ℕ) (listed : Listed list) where
   within-so : (a j : ℕ) → within list a j ≡ true → (j ≡ a) ⊎ Ancestor list a j
-  within-so a j so = ⊎-map (eqb-true j a) (ancestry-told list a j .0) (either (eqb j a) (reaches list (length list) a j) so)
+  within-so a j so = ⊎-map (eqb-true j a) (ancestry-told list a j .0) (either (eqb j a) (isAncestor list a j) so)
 
   -- the contexts on a way that ends are these
   on-within : (k a : ℕ) → k < length list → ends list (length list) k ≡ true → onWay list (length list) k a ≡ within list a k
@@ -46,16 +46,13 @@ module _ (list : List ℕ) (listed : Listed list) where
       marked-each list (listed .few) (length list) k k (λ a. setBelow k (within list a))
       ∙ each-same 16 _ _ (λ a _. rw (on-within k a below end))
 
-  pub all-gathered : (isAncestor : ℕ → ℕ → Bool) → Tells list isAncestor → gathered list (length list) ≡ contextsOf isAncestor (length list)
+  pub all-gathered : gathered list (length list) ≡ contextsOf (isAncestor list) (length list)
   unfolding setBelow
-  all-gathered isAncestor told =
-      each-same 16 _ _ (λ a _. place a (ltb a (length list)) refl) ∙ sym (pad-each 0 16 (length list) (globalContext isAncestor))
+  all-gathered =
+      each-same 16 _ _ (λ a _. place a (ltb a (length list)) refl) ∙ sym (pad-each 0 16 (length list) (globalContext (isAncestor list)))
     where
       n : ℕ
       n = length list
-
-      reached : (a j : ℕ) → reaches list n a j ≡ isAncestor a j
-      reached = told-alike list (reaches list n) isAncestor (ancestry-told list) told
 
       -- a context of the list has no descendant past it
       none-past : (a : ℕ) → a < n → (s : ℕ) → n ≤ s → within list a s ≡ false
@@ -68,10 +65,10 @@ module _ (list : List ℕ) (listed : Listed list) where
           not-found _ (λ so.
           ⊎-elim (λ same. omega arith) (λ way. let child = someones-parent list way in omega (arith, listed .there a (child .0) (child .1))) (within-so a s so))
 
-      place : (a : ℕ) (b : Bool) → ltb a n ≡ b → setBelow n (within list a) ≡ pick b (globalContext isAncestor a) 0
+      place : (a : ℕ) (b : Bool) → ltb a n ≡ b → setBelow n (within list a) ≡ pick b (globalContext (isAncestor list) a) 0
       place a true e =
           let size : n + (16 - n) ≡ 16 = omega (arith, listed .few) in
-          sym (rw size at (set-more n (16 - n) (within list a) (none-past a (ltb-true a n e)))) ∙ set-same 16 (within list a) (λ j. eqb j a || isAncestor a j) (λ s _. rw (reached a s))
+          sym (rw size at (set-more n (16 - n) (within list a) (none-past a (ltb-true a n e))))
       place a false e =
           let size : 0 + n ≡ n = omega arith in
           set-same n (within list a) (λ s. false) (none-within a (ltb-false a n e)) ∙ (rw size at (set-more 0 n (λ s. false) (λ s _. refl)))

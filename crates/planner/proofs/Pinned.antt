@@ -10,12 +10,11 @@ use Rattle.rules.specs.Domains.{domainBit}
 use Rattle.rules.specs.Refusals.{pick}
 use Rattle.machine.specs.Calls.{any}
 use Rattle.image.specs.Description.{pad}
-use Rattle.planner.specs.Ancestors.{isParent, Ancestor, parent, above, Tells, reaches}
-use Rattle.planner.specs.Plan.{each, setBelow, setOf, planChecks, plannedOf}
+use Rattle.planner.specs.Ancestors.{isParent, Ancestor, parent, above, reaches}
+use Rattle.planner.specs.Plan.{each, setBelow, setOf, planChecks, plannedOf, planOf}
 use Rattle.planner.specs.declared.Planned.{Planned}
 use Rattle.planner.proofs.Ancestry.{ancestry-told}
 use Rattle.planner.proofs.Found.{never}
-use Rattle.planner.proofs.Plans.{plan-one}
 use Rattle.planner.proofs.Rings.{row, ring}
 
 -- RULES 11.1: the parent of a context is what stands at its place, unless that is 255, for every list and all numbers
@@ -52,14 +51,10 @@ done contexts = record { number = 0; contexts = contexts }
 abbrev refused : ℕ → Planned
 refused number = record { number = number; contexts = 0 ∷ 0 ∷ 0 ∷ 0 ∷ 0 ∷ 0 ∷ 0 ∷ 0 ∷ 0 ∷ 0 ∷ 0 ∷ 0 ∷ 0 ∷ 0 ∷ 0 ∷ 0 ∷ [] }
 
--- the plan of a list by a test that tells its ancestors (`ancestry-told`), which is the plan by every such test (`plan-one`)
-abbrev planned : List ℕ → Planned
-planned list = plannedOf list (reaches list (length list))
-
 -- whole plans: contexts 0 and 1 under 2 (figure 4a), the ring of three (figure 4b), the ring the other way round, one context, two trees of which one is deep; and those that are refused, for a
 -- cycle of one, of two, of three, one into which context 0 leads, for a missing parent, also beside a cycle, for no context and for seventeen
 pub plans-made :
-    map planned
+    map planOf
     ((2 ∷ 2 ∷ 255 ∷ []) ∷ (1 ∷ 2 ∷ 255 ∷ []) ∷ (255 ∷ 0 ∷ 1 ∷ []) ∷ (255 ∷ []) ∷ (255 ∷ 0 ∷ 4 ∷ 2 ∷ 255 ∷ []) ∷ (0 ∷ []) ∷ (1 ∷ 0 ∷ []) ∷ (1 ∷ 2 ∷ 0 ∷ []) ∷ (1 ∷ 2 ∷ 1 ∷ [])
     ∷ (255 ∷ 2 ∷ []) ∷ (0 ∷ 2 ∷ []) ∷ [] ∷ replicate 17 255 ∷ [])
     ≡ done (1 ∷ 2 ∷ 7 ∷ 0 ∷ 0 ∷ 0 ∷ 0 ∷ 0 ∷ 0 ∷ 0 ∷ 0 ∷ 0 ∷ 0 ∷ 0 ∷ 0 ∷ 0 ∷ [])
@@ -71,17 +66,12 @@ pub plans-made :
 unfolding plannedOf planChecks setBelow each domainBit reaches
 plans-made = refl
 
--- RULES 11.7: so the plans of figure 4 are these, by every test that tells ancestors
+-- RULES 11.7: the plans of figure 4
 pub figures-planned :
-    ((isAncestor : ℕ → ℕ → Bool) → Tells (2 ∷ 2 ∷ 255 ∷ []) isAncestor
-    → plannedOf (2 ∷ 2 ∷ 255 ∷ []) isAncestor ≡ done (1 ∷ 2 ∷ 7 ∷ 0 ∷ 0 ∷ 0 ∷ 0 ∷ 0 ∷ 0 ∷ 0 ∷ 0 ∷ 0 ∷ 0 ∷ 0 ∷ 0 ∷ 0 ∷ []))
-    × ((isAncestor : ℕ → ℕ → Bool) → Tells (1 ∷ 2 ∷ 255 ∷ []) isAncestor
-    → plannedOf (1 ∷ 2 ∷ 255 ∷ []) isAncestor ≡ done (1 ∷ 3 ∷ 7 ∷ 0 ∷ 0 ∷ 0 ∷ 0 ∷ 0 ∷ 0 ∷ 0 ∷ 0 ∷ 0 ∷ 0 ∷ 0 ∷ 0 ∷ 0 ∷ []))
+    (planOf (2 ∷ 2 ∷ 255 ∷ []) ≡ done (1 ∷ 2 ∷ 7 ∷ 0 ∷ 0 ∷ 0 ∷ 0 ∷ 0 ∷ 0 ∷ 0 ∷ 0 ∷ 0 ∷ 0 ∷ 0 ∷ 0 ∷ 0 ∷ []))
+    × (planOf (1 ∷ 2 ∷ 255 ∷ []) ≡ done (1 ∷ 3 ∷ 7 ∷ 0 ∷ 0 ∷ 0 ∷ 0 ∷ 0 ∷ 0 ∷ 0 ∷ 0 ∷ 0 ∷ 0 ∷ 0 ∷ 0 ∷ 0 ∷ []))
 unfolding plannedOf planChecks setBelow each domainBit reaches
-figures-planned = (by (2 ∷ 2 ∷ 255 ∷ []), by (1 ∷ 2 ∷ 255 ∷ []))
-  where
-    by : (list : List ℕ) (isAncestor : ℕ → ℕ → Bool) → Tells list isAncestor → plannedOf list isAncestor ≡ planned list
-    by list isAncestor told = plan-one list isAncestor (reaches list (length list)) told (ancestry-told list)
+figures-planned = (refl, refl)
 
 -- RULES 11.2: of a cycle of two and a context that leads into it, those on the cycle are their own ancestors, and it is not
 pub led-into-cycle :

@@ -17,10 +17,10 @@ use Rattle.machine.specs.Calls.{any}
 use Rattle.machine.specs.Machine.{noProgram}
 use Rattle.image.specs.Description.{Description, Shaped, Legal}
 use Rattle.image.proofs.Entries.{length-pad, pad-at, pad-past}
-use Rattle.planner.specs.Ancestors.{isParent, Ancestor, parent, above, Tells}
-use Rattle.planner.specs.Plan.{each, globalContext, contextsOf, isCount, isMissing, plannedOf}
+use Rattle.planner.specs.Ancestors.{isParent, Ancestor, parent, above, Tells, isAncestor}
+use Rattle.planner.specs.Plan.{each, globalContext, contextsOf, isCount, isMissing, plannedOf, planOf}
 use Rattle.planner.specs.declared.Planned.{Planned}
-use Rattle.planner.proofs.Ancestry.{has-place, told-alike, either}
+use Rattle.planner.proofs.Ancestry.{ancestry-told, has-place, told-alike, either}
 use Rattle.planner.proofs.Each.{each-at, each-length}
 use Rattle.planner.proofs.Forests.{on-one-way}
 use Rattle.planner.proofs.Found.{Listed, listed-by, missing-exactly, own-place, cycle-found, never, not-found}
@@ -35,43 +35,50 @@ pub data PlanGives (list : List ℕ) : ℕ → Type 0 where
   own-ancestor : {k : ℕ} → Listed list → Ancestor list k k → PlanGives list 32
   accepted : Listed list → ((k : ℕ) → Ancestor list k k → ⊥) → PlanGives list 0
 
--- RULES 11.2: every test that tells the ancestors of a list makes the same plan
-pub plan-one : (list : List ℕ) (one two : ℕ → ℕ → Bool) → Tells list one → Tells list two → plannedOf list one ≡ plannedOf list two
-plan-one list one two first second = ap (plannedOf list) (fun-ext (λ a. fun-ext (told-alike list one two first second a)))
+-- RULES 11.2: every test that tells the ancestors of a list makes its plan
+pub plan-one : (list : List ℕ) (test : ℕ → ℕ → Bool) → Tells list test → plannedOf list test ≡ planOf list
+plan-one list test told =
+    ap (plannedOf list) (fun-ext (λ a. fun-ext (told-alike list test (isAncestor list) told (ancestry-told list) a)))
 
 -- RULES 11.3: a plan that is refused has zero in all sixteen places, whatever refuses it
-pub refused-plan-zero : (list : List ℕ) (isAncestor : ℕ → ℕ → Bool) → (plannedOf list isAncestor .number ≡ 0 → ⊥)
-    → plannedOf list isAncestor .contexts ≡ 0 ∷ 0 ∷ 0 ∷ 0 ∷ 0 ∷ 0 ∷ 0 ∷ 0 ∷ 0 ∷ 0 ∷ 0 ∷ 0 ∷ 0 ∷ 0 ∷ 0 ∷ 0 ∷ []
+pub refused-plan-zero : (list : List ℕ) → (planOf list .number ≡ 0 → ⊥)
+    → planOf list .contexts ≡ 0 ∷ 0 ∷ 0 ∷ 0 ∷ 0 ∷ 0 ∷ 0 ∷ 0 ∷ 0 ∷ 0 ∷ 0 ∷ 0 ∷ 0 ∷ 0 ∷ 0 ∷ 0 ∷ []
 unfolding plannedOf
-refused-plan-zero list isAncestor refused = rw (ne-eqb (plannedOf list isAncestor .number) 0 refused)
+refused-plan-zero list refused = rw (ne-eqb (planOf list .number) 0 refused)
 
 zeros : (n k : ℕ) → getD (replicate n 0) k 0 ≡ zero
 zeros zero k = refl
 zeros (suc n) zero = refl
 zeros (suc n) (suc k) = zeros n k
 
-module _ (list : List ℕ) (isAncestor : ℕ → ℕ → Bool) (told : Tells list isAncestor) where
+module _ (list : List ℕ) where
   abbrev made : Planned
-  made = plannedOf list isAncestor
+  made = planOf list
+
+  abbrev test : ℕ → ℕ → Bool
+  test = isAncestor list
+
+  test-tells : Tells list test
+  test-tells = ancestry-told list
 
   gives : PlanGives list (made .number)
   gives = by-count (isCount (length list)) refl
     where
       by-cycle : Listed list → isCount (length list) ≡ true → any (isMissing (length list)) list ≡ false
-          → (b : Bool) → any (λ k. isAncestor k k) (each (length list) (λ k. k)) ≡ b → PlanGives list (made .number)
+          → (b : Bool) → any (λ k. test k k) (each (length list) (λ k. k)) ≡ b → PlanGives list (made .number)
       by-cycle listed count there true e =
-          let found = cycle-found list isAncestor told .0 e in
-          rw (planned-cycle list isAncestor count there e) (own-ancestor listed (found .1))
+          let found = cycle-found list .0 e in
+          rw (planned-cycle list test count there e) (own-ancestor listed (found .1))
       by-cycle listed count there false e =
-          rw (planned-all list isAncestor count there e)
-          (accepted listed (λ k way. never e (cycle-found list isAncestor told .1 (k, way))))
+          rw (planned-all list test count there e)
+          (accepted listed (λ k way. never e (cycle-found list .1 (k, way))))
 
       by-parents : isCount (length list) ≡ true → (b : Bool) → any (isMissing (length list)) list ≡ b → PlanGives list (made .number)
       by-parents count true e =
           let range = count-exactly (length list) .0 count in
           let found = missing-exactly list .0 e in
-          rw (planned-missing list isAncestor count e) (parent-missing (found .0) (found .1) (range .0) (range .1) (found .2) (found .3))
-      by-parents count false e = by-cycle (listed-by list count e) count e (any (λ k. isAncestor k k) (each (length list) (λ k. k))) refl
+          rw (planned-missing list test count e) (parent-missing (found .0) (found .1) (range .0) (range .1) (found .2) (found .3))
+      by-parents count false e = by-cycle (listed-by list count e) count e (any (λ k. test k k) (each (length list) (λ k. k))) refl
 
       out-of-range : (a b : Bool) → leb 1 (length list) ≡ a → leb (length list) 16 ≡ b → a && b ≡ false → PlanGives list 30
       out-of-range true true e f h = absurd (true≢false h)
@@ -80,7 +87,7 @@ module _ (list : List ℕ) (isAncestor : ℕ → ℕ → Bool) (told : Tells lis
 
       by-count : (b : Bool) → isCount (length list) ≡ b → PlanGives list (made .number)
       by-count true e = by-parents e (any (isMissing (length list)) list) refl
-      by-count false e = rw (planned-count list isAncestor e) (out-of-range (leb 1 (length list)) (leb (length list) 16) refl refl e)
+      by-count false e = rw (planned-count list test e) (out-of-range (leb 1 (length list)) (leb (length list) 16) refl refl e)
 
   none-missing : Listed list → any (isMissing (length list)) list ≡ false
   none-missing listed =
@@ -88,18 +95,18 @@ module _ (list : List ℕ) (isAncestor : ℕ → ℕ → Bool) (told : Tells lis
       let missing = missing-exactly list .0 found in
       omega (arith, listed .there (missing .0) (missing .1) (missing .2), missing .3))
 
-  pub planned-free : Listed list → ((k : ℕ) → Ancestor list k k → ⊥) → made ≡ record { number = 0; contexts = contextsOf isAncestor (length list) }
+  pub planned-free : Listed list → ((k : ℕ) → Ancestor list k k → ⊥) → made ≡ record { number = 0; contexts = contextsOf test (length list) }
   planned-free listed free =
-      planned-all list isAncestor (count-exactly (length list) .1 (listed .some, listed .few)) (none-missing listed)
-      (not-found _ (λ found. let at = cycle-found list isAncestor told .0 found in free (at .0) (at .1)))
+      planned-all list test (count-exactly (length list) .1 (listed .some, listed .few)) (none-missing listed)
+      (not-found _ (λ found. let at = cycle-found list .0 found in free (at .0) (at .1)))
 
   given : {n : ℕ} → PlanGives list n → made .number ≡ n
-  given (none-given h) = rw (planned-count list isAncestor (rw h))
-  given (too-many h) = rw (planned-count list isAncestor (rw (lt-leb (length list) 16 h) (and-false (leb 1 (length list)))))
+  given (none-given h) = rw (planned-count list test (rw h))
+  given (too-many h) = rw (planned-count list test (rw (lt-leb (length list) 16 h) (and-false (leb 1 (length list)))))
   given (parent-missing p k some few h past) =
-      rw (planned-missing list isAncestor (count-exactly (length list) .1 (some, few)) (missing-exactly list .1 (p, k, h, past)))
+      rw (planned-missing list test (count-exactly (length list) .1 (some, few)) (missing-exactly list .1 (p, k, h, past)))
   given (own-ancestor {k} listed way) =
-      rw (planned-cycle list isAncestor (count-exactly (length list) .1 (listed .some, listed .few)) (none-missing listed) (cycle-found list isAncestor told .1 (k, way)))
+      rw (planned-cycle list test (count-exactly (length list) .1 (listed .some, listed .few)) (none-missing listed) (cycle-found list .1 (k, way)))
   given (accepted listed free) = rw (planned-free listed free)
 
   -- RULES 11.4: each number comes where its condition says, and nowhere else; there are no others
@@ -107,7 +114,7 @@ module _ (list : List ℕ) (isAncestor : ℕ → ℕ → Bool) (told : Tells lis
   plan-number-exactly n = ((λ e. subst (PlanGives list) e gives), given)
 
   module _ (done : made .number ≡ 0) where
-    planned-places : made .contexts ≡ contextsOf isAncestor (length list)
+    planned-places : made .contexts ≡ contextsOf test (length list)
     unfolding plannedOf
     planned-places = rw done
 
@@ -122,35 +129,35 @@ module _ (list : List ℕ) (isAncestor : ℕ → ℕ → Bool) (told : Tells lis
         of n (accepted l free) e = (l, free)
 
     -- what stands at a context's place
-    place : (k : ℕ) → k < length list → getD (made .contexts) k 0 ≡ globalContext isAncestor k
+    place : (k : ℕ) → k < length list → getD (made .contexts) k 0 ≡ globalContext test k
     place k below =
         rw planned-places
-        (pad-at 0 16 (each (length list) (globalContext isAncestor)) k (omega (arith, listed .0 .few))
-        ∙ each-at 0 (length list) (globalContext isAncestor) k below)
+        (pad-at 0 16 (each (length list) (globalContext test)) k (omega (arith, listed .0 .few))
+        ∙ each-at 0 (length list) (globalContext test) k below)
 
     -- RULES 11.3: a context's place holds its own domain and those of its descendants, and no others
     pub context-exactly : (k j : ℕ) → k < length list → (holds (getD (made .contexts) k 0) j ≡ true) ↔ ((j ≡ k) ⊎ Ancestor list k j)
     context-exactly k j below = rw (place k below) (there (ltb j 16) refl, back)
       where
-        within : j < 16 → holds (globalContext isAncestor k) j ≡ eqb j k || isAncestor k j
-        within known = set-holds (λ s. eqb s k || isAncestor k s) j known
+        within : j < 16 → holds (globalContext test k) j ≡ eqb j k || test k j
+        within known = set-holds (λ s. eqb s k || test k s) j known
 
-        there : (b : Bool) → ltb j 16 ≡ b → holds (globalContext isAncestor k) j ≡ true → (j ≡ k) ⊎ Ancestor list k j
+        there : (b : Bool) → ltb j 16 ≡ b → holds (globalContext test k) j ≡ true → (j ≡ k) ⊎ Ancestor list k j
         there true e held =
-            ⊎-map (eqb-true j k) (told k j .0) (either (eqb j k) (isAncestor k j) (sym (within (ltb-true j 16 e)) ∙ held))
-        there false e held = absurd (never (no-domain-held (globalContext isAncestor k) j (ltb-false j 16 e)) held)
+            ⊎-map (eqb-true j k) (test-tells k j .0) (either (eqb j k) (test k j) (sym (within (ltb-true j 16 e)) ∙ held))
+        there false e held = absurd (never (no-domain-held (globalContext test k) j (ltb-false j 16 e)) held)
 
-        back : (j ≡ k) ⊎ Ancestor list k j → holds (globalContext isAncestor k) j ≡ true
+        back : (j ≡ k) ⊎ Ancestor list k j → holds (globalContext test k) j ≡ true
         back (inl same) = within (omega (arith, listed .0 .few)) ∙ rw (eq-eqb j k same)
-        back (inr way) = within (omega (arith, listed .0 .few, own-place list way)) ∙ rw (told k j .1 way) (or-true (eqb j k))
+        back (inr way) = within (omega (arith, listed .0 .few, own-place list way)) ∙ rw (test-tells k j .1 way) (or-true (eqb j k))
 
     -- RULES 11.3: the places past the last context are zero
     pub places-past-zero : (k : ℕ) → length list ≤ k → getD (made .contexts) k 0 ≡ 0
     places-past-zero k past =
-        rw planned-places (pad-past 0 16 (each (length list) (globalContext isAncestor)) k (rw (each-length (length list) (globalContext isAncestor)) past))
+        rw planned-places (pad-past 0 16 (each (length list) (globalContext test)) k (rw (each-length (length list) (globalContext test)) past))
 
     small : (k : ℕ) → k < length list → getD (made .contexts) k 0 < 65536
-    small k below = rw (place k below) (set-fits (λ s. eqb s k || isAncestor k s))
+    small k below = rw (place k below) (set-fits (λ s. eqb s k || test k s))
 
     -- RULES 11.6: a context contains the contexts of its children
     pub child-contained : (p k : ℕ) → isParent list p k ≡ true
@@ -194,12 +201,12 @@ module _ (list : List ℕ) (isAncestor : ℕ → ℕ → Bool) (told : Tells lis
       split : (b : Bool) → eqb (made .number) 0 ≡ b → (length (made .contexts) ≡ 16) × ((k : ℕ) → getD (made .contexts) k 0 < 65536)
       split true e =
           let done = eqb-true (made .number) 0 e in
-          (rw (planned-places done) (length-pad 0 16 (each (length list) (globalContext isAncestor))), λ k. at done k (ltb k (length list)) refl)
+          (rw (planned-places done) (length-pad 0 16 (each (length list) (globalContext test))), λ k. at done k (ltb k (length list)) refl)
         where
           at : made .number ≡ 0 → (k : ℕ) → (b : Bool) → ltb k (length list) ≡ b → getD (made .contexts) k 0 < 65536
           at done k true h = small done k (ltb-true k (length list) h)
           at done k false h = rw (places-past-zero done k (ltb-false k (length list) h)) (omega arith)
-      split false e = rw (refused-plan-zero list isAncestor (eqb-false (made .number) 0 e)) (refl, λ k. rw (zeros 16 k) (omega arith))
+      split false e = rw (refused-plan-zero list (eqb-false (made .number) 0 e)) (refl, λ k. rw (zeros 16 k) (omega arith))
 
   -- RULES 11.6: an image whose programs have their global contexts from a plan is legal, as far as its counts, fields and masks are
   pub planned-legal : (d : Description) → Shaped d → ((i : ℕ) → getD (d .fields) i 0 < 65536) → ((i : ℕ) → getD (d .programs) i noProgram .mask < 65536)

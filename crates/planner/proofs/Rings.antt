@@ -13,9 +13,9 @@ use Rattle.rules.specs.Refusals.{pick}
 use Rattle.rules.proofs.Bits.{every, every-holds}
 use Rattle.rules.proofs.Decided.{and-both}
 use Rattle.image.specs.Description.{pad}
-use Rattle.planner.specs.Ancestors.{noParent, isParent, Ancestor, parent, above, Tells}
-use Rattle.planner.specs.Plan.{each, setBelow, setOf, globalContext, plannedOf}
-use Rattle.planner.proofs.Ancestry.{parent-stands, has-place, told-alike}
+use Rattle.planner.specs.Ancestors.{noParent, isParent, Ancestor, parent, above, Tells, isAncestor}
+use Rattle.planner.specs.Plan.{each, setBelow, setOf, globalContext, planOf}
+use Rattle.planner.proofs.Ancestry.{ancestry-told, parent-stands, has-place, told-alike}
 use Rattle.planner.proofs.Each.{each-at, each-length, each-same}
 use Rattle.planner.proofs.Found.{Listed}
 use Rattle.planner.proofs.Plans.{own-ancestor, planned-free, plan-number-exactly}
@@ -98,11 +98,11 @@ unfolding every setBelow domainBit
 first-domains m h = eqb-true _ _ (every-holds 17 (λ k. eqb (setOf (λ j. ltb j k)) (2 ^ k - 1)) refl m h)
 
 -- RULES 11.5: a ring of any count from 1 to 16 is accepted, and context i gets the bits 0 to i
-pub ring-planned : (n : ℕ) → 1 ≤ n → n ≤ 16 → (isAncestor : ℕ → ℕ → Bool) → Tells (ring n) isAncestor
-    → plannedOf (ring n) isAncestor ≡ record { number = 0; contexts = pad 16 0 (each n (λ i. 2 ^ (1 + i) - 1)) }
-ring-planned n some few isAncestor told =
-    planned-free (ring n) isAncestor told listed (λ k way. let both = ring-above n way in omega (arith, both .0))
-    ∙ rw size (ap (λ (l : List ℕ). record { number = 0; contexts = pad 16 0 l }) (each-same n (globalContext isAncestor) (λ i. 2 ^ (1 + i) - 1) bits))
+pub ring-planned : (n : ℕ) → 1 ≤ n → n ≤ 16
+    → planOf (ring n) ≡ record { number = 0; contexts = pad 16 0 (each n (λ i. 2 ^ (1 + i) - 1)) }
+ring-planned n some few =
+    planned-free (ring n) listed (λ k way. let both = ring-above n way in omega (arith, both .0))
+    ∙ rw size (ap (λ (l : List ℕ). record { number = 0; contexts = pad 16 0 l }) (each-same n (globalContext (isAncestor (ring n))) (λ i. 2 ^ (1 + i) - 1) bits))
   where
     size : length (ring n) ≡ n
     size = row-length noParent n
@@ -110,20 +110,20 @@ ring-planned n some few isAncestor told =
     listed : Listed (ring n)
     listed = record { some = rw size some; few = rw size few; there = λ p k h. rw size (ring-parent n p k h .1) }
 
-    bits : (i : ℕ) → i < n → globalContext isAncestor i ≡ 2 ^ (1 + i) - 1
+    bits : (i : ℕ) → i < n → globalContext (isAncestor (ring n)) i ≡ 2 ^ (1 + i) - 1
     bits i below =
         let e : 1 + i ≡ suc i = omega arith in
         rw e
-        (set-same 16 (λ j. eqb j i || isAncestor i j) (λ j. ltb j (suc i)) (λ j _.
-        rw (told-alike (ring n) isAncestor (λ a k. ltb k a && ltb a n) told (ring-told n few) i j, lt-ltb i n below, and-true (ltb j i), below-next j i)
+        (set-same 16 (λ j. eqb j i || isAncestor (ring n) i j) (λ j. ltb j (suc i)) (λ j _.
+        rw (told-alike (ring n) (isAncestor (ring n)) (λ a k. ltb k a && ltb a n) (ancestry-told (ring n)) (ring-told n few) i j, lt-ltb i n below, and-true (ltb j i), below-next j i)
         (or-comm (eqb j i) (ltb j i)))
         ∙ first-domains (suc i) (omega arith))
 
 -- RULES 11.5: a cycle of any count from 1 to 16 is refused: a ring whose last context has the first one as its parent
-pub round-refused : (n : ℕ) → 1 ≤ n → n ≤ 16 → (isAncestor : ℕ → ℕ → Bool) → Tells (row 0 n) isAncestor → plannedOf (row 0 n) isAncestor .number ≡ 32
-round-refused zero some few isAncestor told = absurd (omega arith)
-round-refused (suc m) some few isAncestor told =
-    plan-number-exactly (row 0 (suc m)) isAncestor told 32 .1 (own-ancestor listed (own (eqb m 0) refl))
+pub round-refused : (n : ℕ) → 1 ≤ n → n ≤ 16 → planOf (row 0 n) .number ≡ 32
+round-refused zero some few = absurd (omega arith)
+round-refused (suc m) some few =
+    plan-number-exactly (row 0 (suc m)) 32 .1 (own-ancestor listed (own (eqb m 0) refl))
   where
     leads-round : isParent (row 0 (suc m)) 0 m ≡ true
     leads-round = rw (row-at 0 (suc m) m (omega arith), eq-eqb (1 + m) (suc m) (omega arith))

@@ -20,12 +20,17 @@ pub data Ancestor (list : List ℕ) : (a k : ℕ) → Type 0 where
   parent : {p k : ℕ} → isParent list p k ≡ true → Ancestor list p k
   above : {p a k : ℕ} → Ancestor list a k → isParent list p a ≡ true → Ancestor list p k
 
--- RULES 11.2: a test tells the ancestors of a list where it says yes to a and k exactly if a is an ancestor of k. What a plan is, is said with such a
--- test, whichever it is: nothing is said of how an ancestor is found.
+-- RULES 11.2: a test tells the ancestors of a list where it says yes to a and k exactly if a is an ancestor of k
 abbrev pub Tells : List ℕ → (isAncestor : ℕ → ℕ → Bool) → Type 0
 Tells list isAncestor = (a k : ℕ) → (isAncestor a k ≡ true) ↔ Ancestor list a k
 
--- a is reached from k, parent by parent, through contexts below m
+-- RULES 11.2: the way up from k leads to a, and between the two stand none but contexts below m: a is the parent of k, or, with one context more, the way leads to
+-- that one and from there to a
 unfoldable pub reaches : List ℕ → ℕ → (a k : ℕ) → Bool
 reaches list zero a k = isParent list a k
 reaches list (suc m) a k = reaches list m a k || reaches list m m k && reaches list m a m
+
+-- RULES 11.2: a is an ancestor of k, as a test: any context of the list may stand between them. It tells the ancestors of every list (`ancestry-told`), and any test
+-- that does makes the same plan (`plan-one`).
+abbrev pub isAncestor : List ℕ → (a k : ℕ) → Bool
+isAncestor list a k = reaches list (length list) a k

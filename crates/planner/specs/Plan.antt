@@ -8,7 +8,7 @@ use Rattle.rules.specs.Domains.{withBit}
 use Rattle.rules.specs.Refusals.{Check, _⇒_, first, pick}
 use Rattle.machine.specs.Calls.{any}
 use Rattle.image.specs.Description.{pad}
-use Rattle.planner.specs.Ancestors.{noParent, reaches}
+use Rattle.planner.specs.Ancestors.{noParent, isAncestor}
 use Rattle.planner.specs.declared.Planned.{Planned}
 
 module _ {A : Type 0} where
@@ -27,12 +27,12 @@ abbrev pub setOf : (ℕ → Bool) → ℕ
 setOf test = setBelow 16 test
 
 -- RULES 11.3: the global context of context k: its own domain, and those of all its descendants
-abbrev pub globalContext : (isAncestor : ℕ → ℕ → Bool) → ℕ → ℕ
-globalContext isAncestor k = setOf (λ j. eqb j k || isAncestor k j)
+abbrev pub globalContext : (above : ℕ → ℕ → Bool) → ℕ → ℕ
+globalContext above k = setOf (λ j. eqb j k || above k j)
 
 -- RULES 11.3: the global contexts of so many contexts in sixteen places, with zero in those past the last
-abbrev pub contextsOf : (isAncestor : ℕ → ℕ → Bool) → (count : ℕ) → List ℕ
-contextsOf isAncestor count = pad 16 0 (each count (globalContext isAncestor))
+abbrev pub contextsOf : (above : ℕ → ℕ → Bool) → (count : ℕ) → List ℕ
+contextsOf above count = pad 16 0 (each count (globalContext above))
 
 -- RULES 11.4, for 30: as many contexts as there are domains for, and one at least
 abbrev pub isCount : ℕ → Bool
@@ -43,19 +43,19 @@ abbrev pub isMissing : (count : ℕ) → ℕ → Bool
 isMissing count p = not (eqb p noParent) && leb count p
 
 -- RULES 11.4: the conditions of a plan, in order; for 32 some context is its own ancestor
-unfoldable pub planChecks : List ℕ → (isAncestor : ℕ → ℕ → Bool) → List Check
-planChecks list isAncestor =
+unfoldable pub planChecks : List ℕ → (above : ℕ → ℕ → Bool) → List Check
+planChecks list above =
     (not (isCount (length list)) ⇒ 30)
     ∷ (any (isMissing (length list)) list ⇒ 31)
-    ∷ (any (λ k. isAncestor k k) (each (length list) (λ k. k)) ⇒ 32)
+    ∷ (any (λ k. above k k) (each (length list) (λ k. k)) ⇒ 32)
     ∷ []
 
--- RULES 11.3, 11.4: the plan of a list: the number of the first condition that is met, and the sixteen places, all zero where it is refused
-unfoldable pub plannedOf : List ℕ → (isAncestor : ℕ → ℕ → Bool) → Planned
-plannedOf list isAncestor =
-    let number = first (planChecks list isAncestor) in
-    record { number = number; contexts = pick (eqb number 0) (contextsOf isAncestor (length list)) (replicate 16 0) }
+-- RULES 11.3, 11.4: a plan by a test of who is whose ancestor: the number of the first condition that is met, and the sixteen places, all zero where it is refused
+unfoldable pub plannedOf : List ℕ → (above : ℕ → ℕ → Bool) → Planned
+plannedOf list above =
+    let number = first (planChecks list above) in
+    record { number = number; contexts = pick (eqb number 0) (contextsOf above (length list)) (replicate 16 0) }
 
--- RULES 11: the plan of a list
-unfoldable pub planOf : List ℕ → Planned
-planOf list = plannedOf list (reaches list (length list))
+-- RULES 11.2 to 11.4: the plan of a list, by its own ancestors
+abbrev pub planOf : List ℕ → Planned
+planOf list = plannedOf list (isAncestor list)

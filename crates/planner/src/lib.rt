@@ -5,8 +5,7 @@ ghost use mathlib.Core.Bool.{Bool, true, false};
 ghost use Prim.Native.Nat.{ℕ, _≤_};
 ghost use lib.ListN.{length, replicate};
 ghost use Rattle.machine.specs.Calls.{any};
-ghost use Rattle.planner.specs.Ancestors.{Tells};
-ghost use Rattle.planner.specs.Plan.{isCount, isMissing, plannedOf, planOf};
+ghost use Rattle.planner.specs.Plan.{isCount, isMissing, planOf};
 ghost use Rattle.planner.specs.Ways.{ends, marked};
 
 // What stands in a list for a context that has no parent (RULES 11.1).
@@ -80,7 +79,7 @@ fn mark_way(parents: &[u8], contexts: &mut [u16; 16], context: u16) -> bool
 fn plan_ways(parents: &[u8]) -> Planned
     requires { ⌜ isCount (length (now parents)) ≡ true ⌝ }
     requires { ⌜ any (isMissing (length (now parents))) (now parents) ≡ false ⌝ }
-    ensures { λ r. ⌜ ((isAncestor : ℕ → ℕ → Bool) → Tells (now (parents .entry)) isAncestor → r ≡ plannedOf (now (parents .entry)) isAncestor) ⌝ }
+    ensures { λ r. ⌜ r ≡ planOf (now (parents .entry)) ⌝ }
 {
     let mut contexts = [0u16; 16];
     let mut context: u16 = 0;
@@ -96,8 +95,7 @@ fn plan_ways(parents: &[u8]) -> Planned
     }
 }
 
-// The plan of a list of contexts, a byte each: the number of its parent, or NO_PARENT. Whatever test tells the ancestors of the list, the plan is the one
-// that is said with it; there is such a test for every list (`ancestry-told`, proofs/Ancestry.antt).
+// The plan of a list of contexts, a byte each: the number of its parent, or NO_PARENT (RULES, section 11).
 pub fn plan(parents: &[u8]) -> Planned
     ensures { λ r. ⌜ r ≡ planOf (now (parents .entry)) ⌝ }
 {

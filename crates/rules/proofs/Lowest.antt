@@ -2,7 +2,7 @@
 -- the lowest-numbered one that a field and a local context both hold. By induction on the digits: those below the lowest set one are 0, and it is 1.
 use Prim.Native.Nat.{ℕ, zero, suc, _+_, _-_, _*_, _/_, _%_, _^_, _<_}
 use mathlib.Core.Path.{_≡_, refl, sym, ap, _∙_}
-use mathlib.Core.Bool.{Bool, true, false, not, _&&_, _||_, or-false, Bool·beq, true≢false}
+use mathlib.Core.Bool.{Bool, true, false, not, _&&_, _||_, Bool·beq, true≢false}
 use borrow.Author.Tests.{eqb-true, eqb-false, ne-eqb, ltb-true, ltb-false}
 use lib.Bits.{bitAnd, bitOr, and-le-r, and-mask, and-high, and-mod, and-shr, or-lt, or-mod, or-shr}
 use lib.Count.{trailingZeros, under}
@@ -15,7 +15,7 @@ use Rattle.rules.specs.Refusals.{pick}
 use Rattle.rules.specs.declared.domains.Prevailing.the-variants.{Absent, At}
 use Rattle.rules.proofs.Bits.{digit, every, every-holds}
 use Rattle.rules.proofs.Decided.{and-both}
-use Rattle.rules.proofs.Laws.{domain-bit, no-domain-bit, no-domain-held, no-domain-changed}
+use Rattle.rules.proofs.Laws.{domain-bit, no-domain-bit, no-domain-held}
 
 halved : (n s : ℕ) → n / 2 ^ suc s ≡ n / 2 / 2 ^ s
 halved n s = ap (λ (x : ℕ). n / x) (pow-succ' 2 s) ∙ sym (div-div-eq-div-mul n 2 (2 ^ s))
@@ -136,11 +136,11 @@ rest-held d s = split (ltb s 16) refl (ltb d 16) refl
 
 -- RULES 3.5: after a grant to s a field holds s and what it held before, whichever these are, and nothing else; what is no domain is granted nothing
 pub granted-holds : (field s t : ℕ) → holds (withBit field s) t ≡ holds field t || ltb s 16 && eqb t s
-granted-holds field s t = split (ltb s 16) refl
+granted-holds field s t = held-either field (domainBit s) t ∙ ap (λ (b : Bool). holds field t || b) (split (ltb s 16) refl)
   where
-    split : (b : Bool) → ltb s 16 ≡ b → holds (withBit field s) t ≡ holds field t || b && eqb t s
-    split true e = held-either field (domainBit s) t ∙ ap (λ (b : Bool). holds field t || b) (bit-held s t (ltb-true s 16 e))
-    split false e = rw (no-domain-changed field s (ltb-false s 16 e) .0) (sym (or-false (holds field t)))
+    split : (b : Bool) → ltb s 16 ≡ b → holds (domainBit s) t ≡ b && eqb t s
+    split true e = bit-held s t (ltb-true s 16 e)
+    split false e = rw (no-domain-bit s (ltb-false s 16 e))
 
 -- RULES 3.7: after a revocation from s a field holds what it held before but s
 pub revoked-holds : (field s t : ℕ) → holds (withoutBit field s) t ≡ holds field t && not (ltb s 16 && eqb t s)

@@ -1,10 +1,12 @@
 -- What the definitions of this crate come to, written out byte by byte: each word, each remainder, each power of ten, lines past the ninth, and
--- the ends of the buffer. All is computed but the last two laws, which spell out the text of any input and what it is to store a text.
-use Prim.Native.Nat.{ℕ, _+_, _/_, _%_}
+-- the ends of the buffer. All is computed but the last laws, which spell out the text of any input and what it is to store a text.
+use Prim.Native.Nat.{ℕ, _+_, _/_, _%_, _≤_}
 use lib.Dec.{leb, ltb, eqb}
-use mathlib.Core.Path.{_≡_, refl}
+use mathlib.Core.Path.{_≡_, refl, sym, _∙_}
 use mathlib.Core.List.{List, [], _∷_, _++_, map}
-use lib.ListN.{length, replicate, set}
+use mathlib.Core.Logic.{_↔_}
+use lib.ListN.{length, replicate, set, take, drop}
+use lib.Seq.{sets-eq}
 use Rattle.image.specs.Description.{machineOf}
 use Rattle.image.specs.Load.{loadOf, loadChecks, lengthTests, kindTests, shapeEntryTests, shapeTests, bodyTests, describe}
 use Rattle.image.specs.Sample.{sampleBytes}
@@ -126,3 +128,10 @@ text-spelled input answers reports violation s n i room = (refl, refl, refl, ref
 -- storing two bytes from place 1 on: the four bytes of the buffer after it, and the place past them
 pub put-means : (exit : List ℕ) (past : ℕ) → Put (1 ∷ 2 ∷ 3 ∷ 4 ∷ []) 1 (8 ∷ 9 ∷ []) exit past → (exit ≡ 1 ∷ 8 ∷ 9 ∷ 4 ∷ []) × (past ≡ 3)
 put-means exit past put = (put .stored, put .next)
+
+-- RULES 8.7: storing any text that the buffer has room for, in both directions: what stood before the text, the text, and what stood after it
+pub put-exactly : (entry text exit : List ℕ) (at past : ℕ) → at + length text ≤ length entry
+    → Put entry at text exit past ↔ ((exit ≡ take at entry ++ text ++ drop (at + length text) entry) × (past ≡ at + length text))
+put-exactly entry text exit at past room =
+    let stands = sets-eq text entry at room in
+    ((λ put. (put .stored ∙ stands, put .next)), λ so. record { stored = so .0 ∙ sym stands; next = so .1 })

@@ -4,8 +4,7 @@ use mathlib.Core.Bool.{true}
 use borrow.Author.Needs.{needs}
 use borrow.Author.Tests.{not-true, not-false}
 use lib.ListN.{length}
-use Rattle.planner.specs.Plan.{isCount, planOf}
-use Rattle.planner.proofs.Ancestry.{ancestry-told}
+use Rattle.planner.specs.Plan.{isCount}
 use Rattle.planner.proofs.Numbers.{planned-count, planned-missing}
 use Rattle.planner.proofs.plan.Statement.{statement}
 use Rattle.planner.proofs.plan.Tie as tie
@@ -15,13 +14,11 @@ counted : (c : tie.Else1) → let start : tie.Start = (search) in isCount (lengt
 counted c = sym (c .before .count-holds .ensures) ∙ not-false _ (c .if1 .left)
 
 returns : tie.Need-returns
-unfolding planOf
 returns c =
     let asked : tie.Then1 = (search) in
     c .refused .ensures ∙ sym (planned-count _ _ (sym (asked .before .count-holds .ensures) ∙ not-true _ (asked .if1 .taken)))
 
 returns-2 : tie.Need-returns-2
-unfolding planOf
 returns-2 c =
     let counting : tie.Else1 = (search) in
     let asked : tie.Then2 = (search) in
@@ -32,12 +29,8 @@ plan-ways-requires c κs =
     let counting : tie.Else1 = (search) in
     (counted counting, sym (c .before .any-missing .ensures) ∙ c .if2 .left)
 
-returns-3 : tie.Need-returns-3
-unfolding planOf
-returns-3 c = c .plan-ways .ensures _ (ancestry-told _)
-
 pub plan-spec : {M : Type 1} → statement M
 plan-spec =
     tie.close
     (tie.spec (λ c κs. search needs) (λ c κs. search needs) returns (λ c κs. search needs) (λ c κs. search needs) returns-2 plan-ways-requires
-    returns-3)
+    (λ c. search needs))

@@ -9,7 +9,7 @@ use borrow.Author.Tests.{not-true, not-false}
 use lib.ListN.{length}
 use native.Mathlib.Numerals.{add-one}
 use native.Mathlib.Omega.{arith}
-use Rattle.planner.specs.Ancestors.{Ancestor}
+use Rattle.planner.specs.Ancestors.{Ancestor, isAncestor}
 use Rattle.planner.specs.Plan.{each, setBelow}
 use Rattle.planner.specs.Ways.{ends}
 use Rattle.planner.proofs.Found.{Listed, listed-by, own-place, cycle-found, never}
@@ -39,13 +39,13 @@ mark-way-requires c κs = let start : tie.Start Inv-loop μ-loop = (search) in l
 
 -- a way that does not end comes to a context that is its own ancestor
 returns : tie.Need-returns Inv-loop μ-loop
-returns c isAncestor told =
+returns c =
     let start : tie.Start Inv-loop μ-loop = (search) in
     let asked : tie.Then1 Inv-loop μ-loop = (search) in
     let marking : tie.After-mark-way Inv-loop μ-loop = (search) in
     let list = start .args .parents .now in
     let own = endless-own list (listed start .few) (listed start .there) _ (sym (marking .mark-way .ensures .0) ∙ not-true _ (asked .if1 .taken)) in
-    c .refused .ensures ∙ sym (planned-cycle list isAncestor (start .pre .0) (start .pre .1) (cycle-found list isAncestor told .1 own))
+    c .refused .ensures ∙ sym (planned-cycle list (isAncestor list) (start .pre .0) (start .pre .1) (cycle-found list .1 own))
 
 add-context : tie.Need-add-context Inv-loop μ-loop
 add-context c =
@@ -67,14 +67,14 @@ loop-again c =
 
 -- where every way ends no context is its own ancestor
 returns-2 : tie.Need-returns-2 Inv-loop μ-loop
-returns-2 c isAncestor told =
+returns-2 c =
     let start : tie.Start Inv-loop μ-loop = (search) in
     let list = start .args .parents .now in
     let loop = c .before .loop in
     let all : loop .context ≡ length list = omega arith in
     let free : (k : ℕ) → Ancestor list k k → ⊥ = λ k way.
     never (own-endless list (length list) k way) (loop .inv .2 k (omega (arith, own-place list way))) in
-    rw (loop .inv .1, all, all-gathered list (listed start) isAncestor told) (sym (planned-free list isAncestor told (listed start) free))
+    rw (loop .inv .1, all, all-gathered list (listed start)) (sym (planned-free list (listed start) free))
 
 pub plan-ways-spec : {M : Type 1} → statement M
 plan-ways-spec =
