@@ -34,9 +34,9 @@ pub fn domain_bit(s: u16) -> u16
     }
 }
 
-// Domain s is in a field or a context: bit s, moved down to bit 0, is set. No set holds a number above 15. To ask `domain_bit` here once more
-// would make a grant too long to be compiled into the run's loop; a move of 16 bits costs it three instructions more than one of 64
-// (docs/PERFORMANCE.md).
+// Domain s is in a field or a context: its register, moved right by s places, ends in a 1, as bit s then stands where bit 0 stood. No number with bit s
+// alone is made for that, so there is no case for it here (docs/DECISIONS.md). No register holds a number above 15. It is moved in 64 bits, since a move of 16
+// costs the run three instructions more (docs/PERFORMANCE.md).
 pub fn holds_domain(set: u16, s: u16) -> bool
     ensures { λ r. ⌜ r ≡ holds set s ⌝ }
 {
