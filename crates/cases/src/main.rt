@@ -1,6 +1,6 @@
 // Runs stored cases and prints what each gives, to be held to what the independent program under tests/oracle says. Standard input holds them
 // one after another: a kind (1 byte), a length (3 bytes, high byte first), and that many bytes. Kind 1 is a case of writing (writing.rt); a
-// case of any other kind is an input, and its text is printed.
+// case of any other kind is an input, and its text is printed. It reads 524,288 bytes; where there are more, its last line says so.
 mod writing;
 
 use image::bytes::byte_at;
@@ -22,7 +22,7 @@ fn is_writing(bytes: &[u8], at: usize) -> bool
 
 // Where the case at a place of the bytes ends.
 fn end_at(bytes: &[u8], at: u32) -> usize
-    requires { ⌜ at ≤ 262144 ⌝ }
+    requires { ⌜ at ≤ 524288 ⌝ }
     ensures { λ r. ⌜ r ≡ endOf (now (bytes .entry)) at ⌝ }
 {
     let high = byte_at(bytes, 1 + at as usize);
@@ -57,7 +57,7 @@ fn print_case(case: &[u8], number: u64, writes: bool) -> usize
 
 // Runs the case at a place of the bytes, where they hold all of it, and answers where the next one stands.
 fn run_case(bytes: &[u8], at: usize, number: u64) -> usize
-    requires { ⌜ at ≤ 262144 ⌝ }
+    requires { ⌜ at ≤ 524288 ⌝ }
     ensures { λ r. ⌜ r ≡ nextOf (now (bytes .entry)) at ⌝ }
 {
     let end = end_at(bytes, at as u32);
@@ -70,7 +70,7 @@ fn run_case(bytes: &[u8], at: usize, number: u64) -> usize
 
 // Runs the cases one after another, and answers where they end: at the end of the bytes.
 fn run_cases(bytes: &[u8]) -> usize
-    requires { ⌜ length (now bytes) ≤ 262144 ⌝ }
+    requires { ⌜ length (now bytes) ≤ 524288 ⌝ }
     ensures { λ r. ⌜ r ≡ length (now (bytes .entry)) ⌝ }
 {
     let mut at: usize = 0;
@@ -83,7 +83,15 @@ fn run_cases(bytes: &[u8]) -> usize
 }
 
 fn main() {
-    let mut bytes = [0u8; 262144];
+    let mut bytes = [0u8; 524288];
     let got = io::read_full(STDIN_FILENO, &mut bytes);
     run_cases(&bytes[..got]);
+    let mut past = [0u8; 1];
+    let more = io::read_full(STDIN_FILENO, &mut past);
+    if more != 0 {
+        io::write_all(
+            STDOUT_FILENO,
+            b"more than 524288 bytes: the rest was not read\n",
+        );
+    }
 }

@@ -1,8 +1,8 @@
 // The twelve calls (RULES, sections 2 and 3). Beside each public method stands the call without the check for 1 (RULES 2.8), for a
 // caller that knows its machine to be sound: by value (`.._unchecked`), or on a part of the machine that the caller keeps beside it and
 // lends (`.._lent`), so that a loop over calls need not carry fields and stack in its machine. The public method is that call behind one test
-// for soundness, written out in each: a helper that hands the machine on costs copies of it (docs/PERFORMANCE.md). The switch alone hands its
-// test on. In the calls themselves an array is indexed only in a local or lent, the number comes first, what an accepted call changes is
+// for soundness; where the test fails it answers `unsound`. The switch alone hands its test on (docs/PERFORMANCE.md).
+// In the calls themselves an array is indexed only in a local or lent, the number comes first, what an accepted call changes is
 // chosen by it, and the answer is made once at the end.
 use crate::record::Answered;
 use crate::record::Domain;
@@ -176,6 +176,17 @@ impl Answered {
 }
 
 impl Machine {
+    // The refusal for 1 (RULES 2.4).
+    fn unsound(self) -> Answered
+        ensures { λ r. ⌜ r ≡ silent 1 self ⌝ }
+    {
+        Answered {
+            number: 1,
+            machine: self,
+            report: Report::Nothing,
+        }
+    }
+
     // A number, and the machine with the fields that were lent.
     fn answered_with(mut self, number: u8, fields: [u16; 256]) -> Answered
         ensures { λ r. ⌜ r ≡ silent number (withFields fields self) ⌝ }
@@ -247,11 +258,7 @@ impl Machine {
         ensures { λ r. ⌜ r ≡ callOf self (Call.Access width right address) ⌝ }
     {
         if !self.sound() {
-            return Answered {
-                number: 1,
-                machine: self,
-                report: Report::Nothing,
-            };
+            return self.unsound();
         }
         let fields = self.fields;
         self.access_lent(&fields, width, right, address)
@@ -299,11 +306,7 @@ impl Machine {
         ensures { λ r. ⌜ r ≡ callOf self (Call.Grant right page domain) ⌝ }
     {
         if !self.sound() {
-            return Answered {
-                number: 1,
-                machine: self,
-                report: Report::Nothing,
-            };
+            return self.unsound();
         }
         let mut fields = self.fields;
         let number = self.change_lent(&mut fields, true, right, page, domain);
@@ -315,11 +318,7 @@ impl Machine {
         ensures { λ r. ⌜ r ≡ callOf self (Call.Revoke right page domain) ⌝ }
     {
         if !self.sound() {
-            return Answered {
-                number: 1,
-                machine: self,
-                report: Report::Nothing,
-            };
+            return self.unsound();
         }
         let mut fields = self.fields;
         let number = self.change_lent(&mut fields, false, right, page, domain);
@@ -345,11 +344,7 @@ impl Machine {
         ensures { λ r. ⌜ r ≡ callOf self (Call.SetMask mask) ⌝ }
     {
         if !self.sound() {
-            return Answered {
-                number: 1,
-                machine: self,
-                report: Report::Nothing,
-            };
+            return self.unsound();
         }
         self.set_mask_unchecked(mask)
     }
@@ -382,11 +377,7 @@ impl Machine {
         ensures { λ r. ⌜ r ≡ callOf self Call.Enter ⌝ }
     {
         if !self.sound() {
-            return Answered {
-                number: 1,
-                machine: self,
-                report: Report::Nothing,
-            };
+            return self.unsound();
         }
         let mut saved = self.saved;
         let answer = self.enter_lent(&mut saved);
@@ -422,11 +413,7 @@ impl Machine {
         ensures { λ r. ⌜ r ≡ callOf self Call.Return ⌝ }
     {
         if !self.sound() {
-            return Answered {
-                number: 1,
-                machine: self,
-                report: Report::Nothing,
-            };
+            return self.unsound();
         }
         let mut saved = self.saved;
         let answer = self.leave_lent(&mut saved);
@@ -515,11 +502,7 @@ impl Machine {
         ensures { λ r. ⌜ r ≡ callOf self (Call.StoreField right page bits) ⌝ }
     {
         if !self.sound() {
-            return Answered {
-                number: 1,
-                machine: self,
-                report: Report::Nothing,
-            };
+            return self.unsound();
         }
         let mut fields = self.fields;
         let number = self.store_lent(&mut fields, right, page, bits);
@@ -546,11 +529,7 @@ impl Machine {
         ensures { λ r. ⌜ r ≡ callOf self (Call.StoreContext bits) ⌝ }
     {
         if !self.sound() {
-            return Answered {
-                number: 1,
-                machine: self,
-                report: Report::Nothing,
-            };
+            return self.unsound();
         }
         self.store_context_unchecked(bits)
     }
@@ -575,11 +554,7 @@ impl Machine {
         ensures { λ r. ⌜ r ≡ callOf self (Call.StoreMask bits) ⌝ }
     {
         if !self.sound() {
-            return Answered {
-                number: 1,
-                machine: self,
-                report: Report::Nothing,
-            };
+            return self.unsound();
         }
         self.store_mask_unchecked(bits)
     }
@@ -604,11 +579,7 @@ impl Machine {
         ensures { λ r. ⌜ r ≡ callOf self (Call.StoreMode mode) ⌝ }
     {
         if !self.sound() {
-            return Answered {
-                number: 1,
-                machine: self,
-                report: Report::Nothing,
-            };
+            return self.unsound();
         }
         self.store_mode_unchecked(mode)
     }
@@ -632,11 +603,7 @@ impl Machine {
         ensures { λ r. ⌜ r ≡ callOf self Call.AskViolation ⌝ }
     {
         if !self.sound() {
-            return Answered {
-                number: 1,
-                machine: self,
-                report: Report::Nothing,
-            };
+            return self.unsound();
         }
         self.ask_violation_unchecked()
     }

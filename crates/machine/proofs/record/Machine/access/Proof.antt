@@ -12,4 +12,4 @@ returns-2 c =
     sound-answers _ _ (testing .before .sound .ensures) (testing .if1 .left) (c .access-lent .ensures ∙ access-own _ _ _ _)
 
 pub access-spec : {M : Type 1} → statement M
-access-spec = tie.close (tie.spec (λ c κs. search needs) (λ c. unsound-answers _ _ (c .before .sound .ensures) (c .if1 .taken)) (λ c. search needs) (λ c κs. search needs) returns-2)
+access-spec = tie.close (tie.spec (λ c κs. search needs) (λ c κs. search needs) (λ c. c .unsound .ensures ∙ unsound-answers _ _ (c .before .before .sound .ensures) (c .before .if1 .taken)) (λ c. search needs) (λ c κs. search needs) returns-2)

@@ -18,4 +18,4 @@ returns-2 c =
     (c .with-saved .ensures ∙ rw (made .0, made .1) (stack-own _ Return _ refl))
 
 pub leave-spec : {M : Type 1} → statement M
-leave-spec = tie.close (tie.spec (λ c κs. search needs) (λ c. unsound-answers _ _ (c .before .sound .ensures) (c .if1 .taken)) (λ c. search needs) (λ c κs. search needs) (λ c κs. search needs) returns-2)
+leave-spec = tie.close (tie.spec (λ c κs. search needs) (λ c κs. search needs) (λ c. c .unsound .ensures ∙ unsound-answers _ _ (c .before .before .sound .ensures) (c .before .if1 .taken)) (λ c. search needs) (λ c κs. search needs) (λ c κs. search needs) returns-2)

@@ -16,4 +16,4 @@ returns-2 c =
     (c .answered-with .ensures ∙ rw (made .0, made .1) (change-alone _ false _ _ _))
 
 pub revoke-spec : {M : Type 1} → statement M
-revoke-spec = tie.close (tie.spec (λ c κs. search needs) (λ c. unsound-answers _ _ (c .before .sound .ensures) (c .if1 .taken)) (λ c. search needs) (λ c κs. search needs) (λ c κs. search needs) returns-2)
+revoke-spec = tie.close (tie.spec (λ c κs. search needs) (λ c κs. search needs) (λ c. c .unsound .ensures ∙ unsound-answers _ _ (c .before .before .sound .ensures) (c .before .if1 .taken)) (λ c. search needs) (λ c κs. search needs) (λ c κs. search needs) returns-2)

@@ -15,4 +15,4 @@ returns-2 c =
     (c .answered-with .ensures ∙ rw (made .0, made .1) (store-alone _ _ _ _))
 
 pub store-field-spec : {M : Type 1} → statement M
-store-field-spec = tie.close (tie.spec (λ c κs. search needs) (λ c. unsound-answers _ _ (c .before .sound .ensures) (c .if1 .taken)) (λ c. search needs) (λ c κs. search needs) (λ c κs. search needs) returns-2)
+store-field-spec = tie.close (tie.spec (λ c κs. search needs) (λ c κs. search needs) (λ c. c .unsound .ensures ∙ unsound-answers _ _ (c .before .before .sound .ensures) (c .before .if1 .taken)) (λ c. search needs) (λ c κs. search needs) (λ c κs. search needs) returns-2)
