@@ -1,8 +1,8 @@
 // The planner of contexts, for site configurators (RULES, section 11): from the parents of contexts to their global contexts.
 use rules::domains::with_bit;
 ghost use mathlib.Core.Path.{_≡_};
-ghost use mathlib.Core.Bool.{Bool, true, false};
-ghost use Prim.Native.Nat.{ℕ, _≤_};
+ghost use mathlib.Core.Bool.{true, false};
+ghost use Prim.Native.Nat.{_≤_};
 ghost use lib.ListN.{length, replicate};
 ghost use Rattle.machine.specs.Calls.{any};
 ghost use Rattle.planner.specs.Plan.{isCount, isMissing, planOf};
