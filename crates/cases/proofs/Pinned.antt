@@ -2,8 +2,10 @@
 use mathlib.Core.Path.{_≡_, refl}
 use mathlib.Core.Bool.{Bool, true, false}
 use mathlib.Core.List.{List, [], _∷_, _++_, map}
-use Prim.Native.Nat.{ℕ}
-use lib.ListN.{replicate}
+use Prim.Native.Nat.{ℕ, _+_, _*_, _/_, _%_, min}
+use lib.Dec.{eqb}
+use lib.ListN.{replicate, getD, drop}
+use Rattle.rules.specs.Refusals.{pick}
 use Rattle.rules.specs.declared.registers.Mode.{Mode}
 use Rattle.rules.specs.declared.registers.Mode.the-variants.{User, Privileged}
 use Rattle.machine.specs.Machine.{isSound, withLast}
@@ -17,6 +19,7 @@ use Rattle.image.specs.Sample.{sampleBytes}
 use Rattle.image.specs.Write.{descriptionOf, writeChecks, writtenBytes, writtenOf}
 use Rattle.image.proofs.Pinned.{nothing}
 use Rattle.run.specs.Records.{callOfKind, callsOf, stepBy, stepOf}
+use Rattle.run.specs.Run.{imageOf, callBytes}
 use Rattle.run.specs.declared.records.Decoded.{Decoded}
 use Rattle.run.specs.declared.records.Decoded.the-variants.{Known, Unknown}
 use Rattle.cases.specs.Writing.{roomOf, digitOf, digitsOf, machineAfter, heldOf, againOf, rewrittenOf}
@@ -33,6 +36,27 @@ pub digits-printed :
     × (map digitsOf (0x00 ∷ 0x09 ∷ 0xEE ∷ 0xA5 ∷ 0xFF ∷ [])
     ≡ (0x30 ∷ 0x30 ∷ []) ∷ (0x30 ∷ 0x39 ∷ []) ∷ (0x45 ∷ 0x45 ∷ []) ∷ (0x41 ∷ 0x35 ∷ []) ∷ (0x46 ∷ 0x46 ∷ []) ∷ [])
 digits-printed = (refl, refl)
+
+-- the same for any bytes
+pub room-spelled : (bytes : List ℕ) → roomOf bytes ≡ min (256 * getD bytes 0 0 + getD bytes 1 0) 640
+room-spelled bytes = refl
+
+pub digits-spelled : (byte : ℕ)
+    → (map digitOf (0 ∷ 1 ∷ 2 ∷ 3 ∷ 4 ∷ 5 ∷ 6 ∷ 7 ∷ 8 ∷ 9 ∷ 10 ∷ 11 ∷ 12 ∷ 13 ∷ 14 ∷ 15 ∷ [])
+    ≡ 0x30 ∷ 0x31 ∷ 0x32 ∷ 0x33 ∷ 0x34 ∷ 0x35 ∷ 0x36 ∷ 0x37 ∷ 0x38 ∷ 0x39 ∷ 0x41 ∷ 0x42 ∷ 0x43 ∷ 0x44 ∷ 0x45 ∷ 0x46 ∷ [])
+    × (digitsOf byte ≡ digitOf (byte / 16) ∷ digitOf (byte % 16) ∷ [])
+digits-spelled byte = (refl, refl)
+
+-- the two rounds of any image, calls, room and case
+pub rounds-spelled : (image calls bytes : List ℕ) (room : ℕ)
+    → let loads = loadOf image in
+    let input = drop 2 bytes in
+    let read = min (256 * getD bytes 0 0 + getD bytes 1 0) 640 in
+    (heldOf image calls ≡ pick (eqb (loads .number) 0) (machineAfter (loads .machine) (callsOf calls)) (loads .machine))
+    × (againOf image calls room ≡ heldOf (writtenBytes (heldOf image calls) room) calls)
+    × (rewrittenOf bytes ≡ writtenOf (againOf (imageOf input) (callBytes input) read) read .count)
+unfolding heldOf againOf rewrittenOf
+rounds-spelled image calls bytes room = (refl, refl, refl)
 
 -- one page and one program
 abbrev small : ℕ → ℕ → Mode → Machine

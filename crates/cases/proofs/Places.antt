@@ -1,15 +1,26 @@
 -- Where cases stand: each ends past its start, and the next one stands past it and within the bytes. By cases of whether the bytes hold it.
 -- And some that are written out.
-use Prim.Native.Nat.{ℕ, _+_, _≤_, _<_}
+use Prim.Native.Nat.{ℕ, _+_, _*_, _≤_, _<_}
 use mathlib.Core.List.{List, [], _∷_, map}
 use mathlib.Core.Path.{_≡_, refl}
 use mathlib.Core.Bool.{Bool, true, false}
-use borrow.Author.Tests.{leb-true}
+use borrow.Author.Tests.{leb-true, le-leb, lt-leb}
 use native.Mathlib.Omega.{arith}
 use lib.Dec.{eqb, leb}
 use lib.ListN.{length, getD}
 use Rattle.rules.specs.Refusals.{pick}
 use Rattle.cases.specs.Cases.{isWriting, endOf, nextOf}
+
+-- kind, three bytes of length, high byte first, and as many bytes, at any place of any bytes
+pub ends-spelled : (bytes : List ℕ) (at : ℕ)
+    → endOf bytes at ≡ at + 4 + (65536 * getD bytes (1 + at) 0 + (256 * getD bytes (2 + at) 0 + getD bytes (1 + (2 + at)) 0))
+unfolding endOf
+ends-spelled bytes at = refl
+
+pub next-exactly : (bytes : List ℕ) (at : ℕ)
+    → (endOf bytes at ≤ length bytes → nextOf bytes at ≡ endOf bytes at) × (length bytes < endOf bytes at → nextOf bytes at ≡ length bytes)
+unfolding nextOf
+next-exactly bytes at = (λ within. rw (le-leb _ _ within), λ cut. rw (lt-leb _ _ cut))
 
 pub end-past : (bytes : List ℕ) (at : ℕ) → at + 4 ≤ endOf bytes at
 unfolding endOf

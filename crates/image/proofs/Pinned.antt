@@ -24,7 +24,7 @@ use Rattle.image.specs.Bytes.{byteAt, wordOf, wordAt, word, entries, bod
 use Rattle.image.specs.Description.{bytesOf, machineOf, pad}
 use Rattle.image.specs.Load.{describe, loadChecks, loadOf, lengthTests, kindTests, shapeEntryTests, shapeTests, bodyTests}
 use Rattle.image.specs.Sample.{sampleBytes, sampleMachine}
-use Rattle.image.specs.Starred.{Case, starred, outcome, expected}
+use Rattle.image.specs.Starred.{Case, starred, afterCalls, outcome, expected}
 
 -- bytes and 16-bit numbers, read and written, and bodies of two bytes
 pub bytes-read :
@@ -229,6 +229,14 @@ pub cases-judged :
     × (outcome asked .report ≡ Denied (record { program = 0; right = 1; address = 0 }))
 unfolding callOf checksOf accessChecks effectOf entered after isSound loadOf loadChecks lengthTests kindTests shapeEntryTests shapeTests bodyTests describe machineOf sampleBytes
 cases-judged = (refl, refl)
+
+-- and for any case, with any calls before it
+pub cases-spelled : (c : Case) (m : Machine) (call : Call) (rest : List Call)
+    → (afterCalls m [] ≡ m)
+    × (afterCalls m (call ∷ rest) ≡ afterCalls (callOf m call .machine) rest)
+    × (outcome c ≡ callOf (afterCalls (loadOf sampleBytes .machine) (c .before)) (c .call))
+    × (_≡_ {A = Answered} (expected c) (record { number = c .number; machine = c .machine; report = c .report }))
+cases-spelled c m call rest = (refl, refl, refl, refl)
 
 -- the sample's bytes by themselves: their places and what stands there
 pub sample-bytes :

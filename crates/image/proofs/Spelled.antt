@@ -1,9 +1,9 @@
 -- The load spelled out for any bytes: its number from its tests, one behind the other, each by the place of the byte that it reads, and the machine
 -- by all its parts. The tables of Order and Pinned try images that are written out; here none is left out.
-use Prim.Native.Nat.{ℕ, _+_, _*_, _^_}
+use Prim.Native.Nat.{ℕ, _+_, _*_, _/_, _%_, _^_}
 use mathlib.Core.Path.{_≡_, refl}
-use mathlib.Core.Bool.{false, not}
-use mathlib.Core.List.{List, [], _∷_}
+use mathlib.Core.Bool.{Bool, true, false, not, _&&_}
+use mathlib.Core.List.{List, [], _∷_, foldl}
 use lib.Dec.{leb, eqb}
 use lib.ListN.{length, getD, replicate}
 use Rattle.rules.specs.Refusals.{pick}
@@ -11,9 +11,29 @@ use Rattle.rules.specs.declared.registers.Mode.the-variants.{User, Privileged}
 use Rattle.machine.specs.Machine.{zero}
 use Rattle.machine.specs.declared.record.Program.{Program}
 use Rattle.machine.proofs.Written.{stored, live, whole}
-use Rattle.image.specs.Bytes.{byteAt, wordAt, entries}
+use Rattle.image.specs.Bytes.{byteAt, wordOf, wordAt, word, entries}
 use Rattle.image.specs.Description.{machineOf, pad}
 use Rattle.image.specs.Load.{every, areModes, describe, loadChecks, loadOf, lengthTests, kindTests, shapeEntryTests, shapeTests, bodyTests}
+
+-- a byte and a number at any place of any bytes, the length that an input declares too, and a number as it is written
+pub bytes-spelled : (s : List ℕ) (at high low w : ℕ)
+    → (byteAt s at ≡ getD s at 0)
+    × (wordOf high low ≡ 256 * high + low)
+    × (wordAt s at ≡ 256 * getD s at 0 + getD s (1 + at) 0)
+    × (word w ≡ w / 256 ∷ w % 256 ∷ [])
+bytes-spelled s at high low w = (refl, refl, refl, refl)
+
+failed-stays : (tests : List Bool) → foldl _&&_ false tests ≡ false
+failed-stays [] = refl
+failed-stays (test ∷ rest) = failed-stays rest
+
+-- tests hold where each of them does, also where more than one fails
+pub tests-spelled : (test : Bool) (rest : List Bool) → (every [] ≡ true) × (every (test ∷ rest) ≡ test && every rest)
+tests-spelled true rest = (refl, refl)
+tests-spelled false rest = (refl, failed-stays rest)
+
+pub modes-spelled : (mode : ℕ) (rest : List ℕ) → (areModes [] ≡ true) × (areModes (mode ∷ rest) ≡ leb mode 1 && areModes rest)
+modes-spelled mode rest = (refl, refl)
 
 module _ (s : List ℕ) where
   abbrev at : ℕ → ℕ

@@ -127,6 +127,14 @@ pub last-page-order :
 unfolding callOf checksOf accessChecks changeChecks isSound prevailing domainBit trailingZeros
 last-page-order = (refl, refl, refl, refl)
 
+-- where 15 prevails, below which no domain is, no grant and no revocation is done: 11 for who does not hold 15 locally, 12 for who does
+pub lowest-prevails :
+    (Answers callOf (wide (last 0x8000 0) (live 0x7FFF 0xFFFF User false)) (both 0 127 3 11 (both 0 127 15 11 [])))
+    × (Answers callOf (wide (last 0x8000 0) (live 0xFFFF 0x7FFF User false)) (both 0 127 3 11 (both 0 127 15 11 [])))
+    × (Answers callOf (wide (last 0x8000 0) (live 0x8000 0xFFFF User false)) (both 0 127 3 12 (both 0 127 15 12 [])))
+unfolding callOf checksOf changeChecks isSound prevailing domainBit trailingZeros
+lowest-prevails = (refl, refl, refl)
+
 -- a machine, a call on it that reports nothing, and the number and the machine after it
 abbrev Outcomes : (Machine → Call → Answered) → List (Machine × Call × ℕ × Machine) → Type 0
 Outcomes made rows = map (λ row. made (row .0) (row .1)) rows ≡ map (λ row. gives (row .2) (row .3)) rows

@@ -1,6 +1,6 @@
 -- What the definitions of this crate come to, written out: parents, the first ancestors, sets, each number and each order of two, whole plans beside figure 4
 -- of Lopriore's paper, and a plan spelled out for every list. All is computed but the ancestors, which are named by their ways up, so that a definition that was misread differs.
-use Prim.Native.Nat.{ℕ}
+use Prim.Native.Nat.{ℕ, suc}
 use mathlib.Core.Path.{_≡_, refl}
 use mathlib.Core.Bool.{Bool, true, false, not, _&&_, _||_}
 use mathlib.Core.List.{List, [], _∷_, map}
@@ -36,6 +36,12 @@ parents-read = (refl, refl, refl, refl, refl, refl)
 pub ancestors-found : (list : List ℕ) (k a b c : ℕ) → isParent list a k ≡ true → isParent list b a ≡ true → isParent list c b ≡ true
     → Ancestor list a k × Ancestor list b k × Ancestor list c k
 ancestors-found list k a b c first second third = (parent first, above (parent first) second, above (above (parent first) second) third)
+
+-- RULES 11.2: the test of ancestors, one step: with one context more between the two, for every list and all numbers
+pub reaches-spelled : (list : List ℕ) (m a k : ℕ)
+    → (reaches list 0 a k ≡ isParent list a k) × (reaches list (suc m) a k ≡ (reaches list m a k || reaches list m m k && reaches list m a m))
+unfolding reaches
+reaches-spelled list m a k = (refl, refl)
 
 -- the domains of a test: all, each end, none past the last, two; and what belongs to each number
 pub sets-made :

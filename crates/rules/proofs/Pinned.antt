@@ -2,9 +2,10 @@
 -- law sets a list of values that a definition gives beside the list of what they must be, so that a definition that was misread differs.
 use Prim.Native.Nat.{ℕ}
 use mathlib.Core.Path.{_≡_, refl}
-use mathlib.Core.Bool.{Bool, true, false}
+use mathlib.Core.Bool.{Bool, true, false, not}
 use mathlib.Core.List.{List, [], _∷_, map}
 use lib.Count.{trailingZeros}
+use lib.Dec.{leb}
 use Rattle.rules.specs.Refusals.{first, pick, _⇒_}
 use Rattle.rules.specs.Registers.{isPrivileged, modeWhere, localContext, withContext, withMask, withMode, withPending, maskedOf}
 use Rattle.rules.specs.Domains.{isDomain, domainBit, holds, prevailing, givingDomain, isOutside, isNotLower, withBit, withoutBit}
@@ -80,6 +81,14 @@ pub levels :
     × (map (isNotLower (At 9)) (0 ∷ 8 ∷ 9 ∷ 10 ∷ 15 ∷ []) ≡ true ∷ true ∷ true ∷ false ∷ false ∷ [])
 unfolding domainBit
 levels = (refl, refl, refl, refl)
+
+-- the same for every domain, also for 15: no domain is of lower level than it, so that who may act on a field in which it prevails shows in no answer of 0
+pub levels-spelled : (domain local s : ℕ)
+    → (isOutside Absent local ≡ true)
+    × (isOutside (At domain) local ≡ not (holds local domain))
+    × (isNotLower (At domain) s ≡ leb s domain)
+    × (isNotLower Absent s ≡ true)
+levels-spelled domain local s = (refl, refl, refl, refl)
 
 abbrev registers : ℕ → ℕ → Mode → Bool → Registers
 registers context mask mode pending = record { context = context; mask = mask; mode = mode; pending = pending }
