@@ -52,7 +52,7 @@ abbrev pub touched : Width → ℕ → List ℕ
 touched One address = address ∷ []
 touched Two address = address ∷ (address + 1) ∷ []
 
--- RULES 3.2: some byte of a list meets a condition
+-- RULES 3.2: some number of a list meets a condition, here some byte that is touched
 abbrev pub any : (ℕ → Bool) → List ℕ → Bool
 any meets [] = false
 any meets (x ∷ rest) = meets x || any meets rest
@@ -74,7 +74,7 @@ accessChecks m right bytes =
     ∷ pick (inPrivilegedMode m) []
     ((m .registers .pending ⇒ 8) ∷ (any (isDenied m right) bytes ⇒ 9) ∷ [])
 
--- RULES 3.4, 3.6: the own conditions of grant and revoke alike, from the domain that prevails in the field
+-- RULES 3.4, 3.6: the own conditions of grant and revoke alike, from the domain that prevails in the field, which the row finds once
 unfoldable pub changeChecks : Machine → ℕ → Page → Domain → Prevailing → List Check
 changeChecks m right page s prevails =
     (not (isRight right) ⇒ 2)
@@ -86,7 +86,7 @@ changeChecks m right page s prevails =
     ∷ (isNotLower prevails (s .0) ⇒ 12)
     ∷ []
 
--- RULES 3.23, 5.6: the mode of a number. Above 1 nothing is read from it: 17 and 25 refuse such numbers.
+-- RULES 3.23, 5.6: the mode of a number. Above 1 it is privileged, which no answer shows: 17 and 25 refuse such numbers.
 abbrev pub modeOf : ℕ → Mode
 modeOf mode = pick (eqb mode 0) User Privileged
 
@@ -100,7 +100,7 @@ entered m =
     withStack (m .depth + 1) (set (m .saved) (m .depth) (isPrivileged (m .registers .mode)))
     (withRegisters (withMode Privileged (withPending false (m .registers))) m)
 
--- RULES 3.13: a return takes the live mode from the last taken place of the stack and leaves user there
+-- RULES 3.13: a return takes the live mode from the last filled place of the stack and leaves user there
 unfoldable pub returned : Machine → Machine
 returned m =
     let top = m .depth - 1 in
@@ -148,6 +148,7 @@ pub record Rule : Type 0 where
 abbrev pub plain : Machine → List Check → Machine → Rule
 plain m checks effect = record { checks = checks; effect = effect; report = Nothing; last = m .violations .last }
 
+-- RULES, section 3: the rule of each call, one row a call, in the section's order.
 -- RULES 3.2, 3.3: access, of either width. What is allowed changes nothing. The last violation is that the current program was denied that right to that
 -- address, which is the first byte's, whichever byte's page denied it.
 abbrev pub ruleOf : Machine → Call → Rule
@@ -181,13 +182,13 @@ ruleOf m (Switch program) =
     ∷ (not (ltb program (m .programs)) ⇒ 16)
     ∷ [])
     (switched m program)
--- RULES 3.16 to 3.23: the four stores, which leave the current program's table entry alone: of a field,
+-- RULES 3.16, 3.17: the kernel's store of a field. No store touches the current program's table entry.
 ruleOf m (StoreField right page bits) =
     plain m ((not (isRight right) ⇒ 2) ∷ (not (ltb (page .0) (m .pages)) ⇒ 4) ∷ (inUserMode m ⇒ 7) ∷ []) (withField m right (page .0) bits)
--- of the global context and of the mask,
+-- RULES 3.18 to 3.21: the stores of the global context and of the mask
 ruleOf m (StoreContext bits) = plain m ((inUserMode m ⇒ 7) ∷ []) (withRegisters (withContext bits (m .registers)) m)
 ruleOf m (StoreMask bits) = plain m ((inUserMode m ⇒ 7) ∷ []) (withRegisters (withMask bits (m .registers)) m)
--- and of the mode, where 17 comes before 7
+-- RULES 3.22, 3.23: the store of the mode, where 17 comes before 7
 ruleOf m (StoreMode mode) =
     plain m ((not (leb mode 1) ⇒ 17) ∷ (inUserMode m ⇒ 7) ∷ []) (withRegisters (withMode (modeOf mode) (m .registers)) m)
 -- RULES 3.24, 3.25: the question for the last violation, which changes nothing, so that it can be asked again

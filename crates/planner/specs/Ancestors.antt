@@ -21,11 +21,11 @@ pub data Ancestor (list : List ℕ) : (a k : ℕ) → Type 0 where
   above : {p a k : ℕ} → Ancestor list a k → isParent list p a ≡ true → Ancestor list p k
 
 -- RULES 11.2: a test tells the ancestors of a list where it says yes to a and k exactly if a is an ancestor of k
-abbrev pub Tells : List ℕ → (isAncestor : ℕ → ℕ → Bool) → Type 0
-Tells list isAncestor = (a k : ℕ) → (isAncestor a k ≡ true) ↔ Ancestor list a k
+abbrev pub Tells : List ℕ → (test : ℕ → ℕ → Bool) → Type 0
+Tells list test = (a k : ℕ) → (test a k ≡ true) ↔ Ancestor list a k
 
--- RULES 11.2: the way up from k leads to a, and between the two stand none but contexts below m: a is the parent of k, or, with one context more, the way leads to
--- that one and from there to a
+-- RULES 11.2: a is reached from k going up, with none but contexts below m between the two. With context m allowed as well: as before, or from k to m
+-- and from m to a.
 unfoldable pub reaches : List ℕ → ℕ → (a k : ℕ) → Bool
 reaches list zero a k = isParent list a k
 reaches list (suc m) a k = reaches list m a k || reaches list m m k && reaches list m a m

@@ -26,7 +26,7 @@ setBelow (suc s) test = pick (test s) (withBit (setBelow s test) s) (setBelow s 
 abbrev pub setOf : (ℕ → Bool) → ℕ
 setOf test = setBelow 16 test
 
--- RULES 11.3: the global context of context k: its own domain, and those of all its descendants
+-- RULES 11.3: the global context of context k: its own domain, and those of all its descendants. `above k j` says that k is an ancestor of j.
 abbrev pub globalContext : (above : ℕ → ℕ → Bool) → ℕ → ℕ
 globalContext above k = setOf (λ j. eqb j k || above k j)
 
@@ -34,11 +34,11 @@ globalContext above k = setOf (λ j. eqb j k || above k j)
 abbrev pub contextsOf : (above : ℕ → ℕ → Bool) → (count : ℕ) → List ℕ
 contextsOf above count = pad 16 0 (each count (globalContext above))
 
--- RULES 11.4, for 30: as many contexts as there are domains for, and one at least
+-- RULES 11.4: as many contexts as there are domains for, and one at least; 30 where that is not so
 abbrev pub isCount : ℕ → Bool
 isCount count = leb 1 count && leb count 16
 
--- RULES 11.4, for 31: a parent that is none of so many contexts
+-- RULES 11.4, for 31: an entry of the list that names a parent which is none of so many contexts
 abbrev pub isMissing : (count : ℕ) → ℕ → Bool
 isMissing count p = not (eqb p noParent) && leb count p
 

@@ -1,5 +1,4 @@
--- What the planner's private function does that goes up from a context, step by step: at each turn it stands at a context, or at a number that is none. The definition
--- of a plan rests on nothing of this.
+-- What the private `mark_way` does at each step on the way up from a context. The definition of a plan rests on nothing of this.
 use Prim.Native.Nat.{ℕ, zero, suc}
 use mathlib.Core.Bool.{Bool, true}
 use mathlib.Core.List.{List}

@@ -20,11 +20,11 @@ domainBit s = pick (isDomain s) (2 ^ s) 0
 abbrev pub holds : ℕ → ℕ → Bool
 holds set s = not (eqb (bitAnd set (domainBit s)) 0)
 
--- RULES 3.5: a field after a grant to s
+-- RULES 3.5: a set with s put in, as a field after a grant to s
 abbrev pub withBit : ℕ → ℕ → ℕ
 withBit field s = bitOr field (domainBit s)
 
--- RULES 3.7: a field after a revocation from s
+-- RULES 3.7: a set with s taken out, as a field after a revocation from s
 abbrev pub withoutBit : ℕ → ℕ → ℕ
 withoutBit field s = bitAnd field (65535 - domainBit s)
 
