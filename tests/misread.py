@@ -14,10 +14,10 @@ Only laws may refuse. So the crates are copied without their functions and witho
 the laws the named one and what it rests on.
 
 One run of the prover tries many misreadings side by side, since to start it takes longer than most laws do. Each misreading has copies of its
-own, with its number at the end of their names: of the definitions that it changes, and of all that rests on these, the law among them.
-A copy uses copies of its own number, and beside them what rests on nothing that was changed, which stands once. For each law of a run there is
-one copy more, without a change but with a false declaration after the law. That declaration has to be reported there, and nothing else: so
-copies are looked at, what was copied is accepted as it stands, and what is reported of another copy comes from its change.
+own, with its number at the end of their names: of the definitions that it or another misreading of its law changes, of all that rests on
+these, and of the law. A copy uses copies of its own number, and beside them what rests on nothing that was changed, which stands once. For each
+law of a run there is one copy more, without a change but with a false declaration after the law. That declaration has to be reported there,
+and nothing else: so copies are looked at, what was copied is accepted as it stands, and what is reported of another copy comes from its change.
 
 A misreading is refused where the prover reports an error inside the named law, in the copy for that misreading, which says that a fact fails.
 That something which the law uses failed is not enough. A misreading that is no definition any more does not count, nor does any where the run
