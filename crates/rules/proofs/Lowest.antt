@@ -107,16 +107,20 @@ same true false h = sym h
 same false true h = h
 same false false h = refl
 
+-- two tests of two domains that agree on each of the sixteen, which is computed
+each-pair : (f g : ℕ → ℕ → Bool) → every 16 (λ k. every 16 (λ n. Bool·beq (f k n) (g k n))) ≡ true
+    → (d s : ℕ) → d < 16 → s < 16 → f d s ≡ g d s
+each-pair f g all d s first second =
+    same (f d s) (g d s)
+    (every-holds 16 (λ n. Bool·beq (f d n) (g d n)) (every-holds 16 (λ k. every 16 (λ n. Bool·beq (f k n) (g k n))) all d first) s second)
+
 -- the bit of a domain holds that domain and no other
 pub bit-held : (d s : ℕ) → d < 16 → holds (domainBit d) s ≡ eqb s d
 unfolding domainBit every
 bit-held d s known = split (ltb s 16) refl
   where
     split : (b : Bool) → ltb s 16 ≡ b → holds (domainBit d) s ≡ eqb s d
-    split true e =
-        same (holds (domainBit d) s) (eqb s d)
-        (every-holds 16 (λ n. Bool·beq (holds (domainBit d) n) (eqb n d))
-        (every-holds 16 (λ k. every 16 (λ n. Bool·beq (holds (domainBit k) n) (eqb n k))) refl d known) s (ltb-true s 16 e))
+    split true e = each-pair (λ k n. holds (domainBit k) n) (λ k n. eqb n k) refl d s known (ltb-true s 16 e)
     split false e =
         let past = ltb-false s 16 e in
         rw (no-domain-held (domainBit d) s past, ne-eqb s d (omega arith))
@@ -128,9 +132,7 @@ rest-held d s = split (ltb s 16) refl (ltb d 16) refl
   where
     split : (b : Bool) → ltb s 16 ≡ b → (c : Bool) → ltb d 16 ≡ c → holds (65535 - domainBit d) s ≡ b && not (c && eqb s d)
     split true e true f =
-        same (holds (65535 - domainBit d) s) (not (eqb s d))
-        (every-holds 16 (λ n. Bool·beq (holds (65535 - domainBit d) n) (not (eqb n d)))
-        (every-holds 16 (λ k. every 16 (λ n. Bool·beq (holds (65535 - domainBit k) n) (not (eqb n k)))) refl d (ltb-true d 16 f)) s (ltb-true s 16 e))
+        each-pair (λ k n. holds (65535 - domainBit k) n) (λ k n. not (eqb n k)) refl d s (ltb-true d 16 f) (ltb-true s 16 e)
     split true e false f = rw (no-domain-bit d (ltb-false d 16 f)) (every-holds 16 (holds 65535) refl s (ltb-true s 16 e))
     split false e c f = no-domain-held (65535 - domainBit d) s (ltb-false s 16 e)
 
