@@ -12,7 +12,7 @@ use lib.ListN.{length, getD, replicate, List·getD-eq-default}
 use native.Mathlib.Omega.{arith}
 use Rattle.rules.specs.Domains.{holds}
 use Rattle.rules.proofs.Laws.{no-domain-held}
-use Rattle.rules.proofs.Lowest.{both-held, held-both}
+use Rattle.rules.proofs.Lowest.{both-held, held-alike, held-both}
 use Rattle.machine.specs.Calls.{any}
 use Rattle.machine.specs.Machine.{noProgram}
 use Rattle.image.specs.Description.{Description, Shaped, Legal}
@@ -25,7 +25,7 @@ use Rattle.planner.proofs.Each.{each-at, each-length}
 use Rattle.planner.proofs.Forests.{on-one-way}
 use Rattle.planner.proofs.Found.{Listed, listed-by, missing-exactly, own-place, cycle-found, never, not-found}
 use Rattle.planner.proofs.Numbers.{count-exactly, planned-count, planned-missing, planned-cycle, planned-all}
-use Rattle.planner.proofs.Sets.{set-holds, set-fits, held-alike}
+use Rattle.planner.proofs.Sets.{set-holds, set-fits}
 
 -- RULES 11.4: when each number comes
 pub data PlanGives (list : List ℕ) : ℕ → Type 0 where

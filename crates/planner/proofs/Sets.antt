@@ -1,19 +1,16 @@
--- The set of the domains to which a test says yes holds these and no others, by induction on the domains. A number of sixteen bits is the set of the domains that it holds, by its binary digits; so two sets
--- are the same where they hold the same domains.
-use Prim.Native.Nat.{ℕ, zero, suc, _+_, _*_, _/_, _%_, _^_, _<_, _≤_}
-use mathlib.Core.Path.{_≡_, refl, sym, ap, _∙_}
-use mathlib.Core.Bool.{Bool, true, false, not, _&&_, _||_, or-false}
+-- The set of the domains to which a test says yes holds these and no others, by induction on the domains.
+use Prim.Native.Nat.{ℕ, zero, suc, _+_, _<_, _≤_}
+use mathlib.Core.Path.{_≡_, refl, sym, _∙_}
+use mathlib.Core.Bool.{Bool, true, false, _&&_, _||_, or-false}
 use borrow.Author.Tests.{eqb-true, eqb-false, ltb-true, ltb-false, lt-ltb, le-ltb}
-use lib.Bits.{bitOr, or-lt, or-shifted-r}
+use lib.Bits.{or-lt}
 use lib.Dec.{eqb, ltb}
-use lib.Pow.{pow-lt, pow-pos, mod-pow-add}
-use native.Mathlib.Nat.{mod-lt, mod-one, mod-eq-of-lt}
+use lib.Pow.{pow-lt}
 use native.Mathlib.Omega.{arith}
 use Rattle.rules.specs.Domains.{domainBit, holds, withBit}
 use Rattle.rules.specs.Refusals.{pick}
 use Rattle.rules.proofs.Laws.{domain-bit}
-use Rattle.rules.proofs.Bits.{digit}
-use Rattle.rules.proofs.Lowest.{held-digit, held-either, bit-held}
+use Rattle.rules.proofs.Lowest.{held-either, bit-held}
 use Rattle.planner.specs.Plan.{setBelow, setOf}
 
 -- tests that agree below n have the same set
@@ -88,27 +85,3 @@ set-small (suc n) f few = go (f n) (set-small n f (omega arith))
 
 pub set-fits : (f : ℕ → Bool) → setOf f < 65536
 set-fits f = set-small 16 f (omega arith)
-
--- the digits below k of a number are the set of the domains below k that it holds
-set-back : (n k : ℕ) → k ≤ 16 → setBelow k (holds n) ≡ n % 2 ^ k
-unfolding setBelow
-set-back n zero few = sym (mod-one n)
-set-back n (suc k) few =
-    rw (held-digit n k (omega arith), set-back n k (omega arith)) (go (n / 2 ^ k % 2) (digit (n / 2 ^ k)) ∙ sym next)
-  where
-    next : n % 2 ^ suc k ≡ (n / 2 ^ k % 2) * 2 ^ k + n % 2 ^ k
-    next = let e : suc k ≡ 1 + k = omega arith in rw e (mod-pow-add n 1 k)
-
-    go : (d : ℕ) → d < 2 → pick (not (eqb d 0)) (withBit (n % 2 ^ k) k) (n % 2 ^ k) ≡ d * 2 ^ k + n % 2 ^ k
-    go zero h = omega arith
-    go (suc zero) h =
-        let alone : 1 * 2 ^ k ≡ 2 ^ k = omega arith in
-        rw (domain-bit k (omega arith)) (ap (bitOr (n % 2 ^ k)) (sym alone) ∙ or-shifted-r 1 k (n % 2 ^ k) (mod-lt n (pow-pos k)))
-    go (suc (suc d)) h = absurd (omega arith)
-
--- two numbers of sixteen bits that hold the same domains are the same
-pub held-alike : (a b : ℕ) → a < 65536 → b < 65536 → ((s : ℕ) → s < 16 → holds a s ≡ holds b s) → a ≡ b
-held-alike a b small small′ same = sym (whole a small) ∙ set-same 16 (holds a) (holds b) same ∙ whole b small′
-  where
-    whole : (n : ℕ) → n < 65536 → setOf (holds n) ≡ n
-    whole n fits = set-back n 16 (omega arith) ∙ mod-eq-of-lt fits

@@ -26,13 +26,13 @@ pub digit : (n : ℕ) → n % 2 < 2
 digit n = mod-lt n two-pos
 
 -- the upper digits of the two operations, and the last one
-and-half : (a b : ℕ) → bitAnd a b / 2 ≡ bitAnd (a / 2) (b / 2)
+pub and-half : (a b : ℕ) → bitAnd a b / 2 ≡ bitAnd (a / 2) (b / 2)
 and-half a b = and-shr a b 1
 
 or-half : (a b : ℕ) → bitOr a b / 2 ≡ bitOr (a / 2) (b / 2)
 or-half a b = or-shr a b 1
 
-and-last : (a b : ℕ) → bitAnd a b % 2 ≡ min (a % 2) (b % 2)
+pub and-last : (a b : ℕ) → bitAnd a b % 2 ≡ min (a % 2) (b % 2)
 and-last a b = omega (arith, and-half a b, and-step a b, div-add-mod' (bitAnd a b) 2)
 
 or-last : (a b : ℕ) → bitOr a b % 2 ≡ max (a % 2) (b % 2)

@@ -1,14 +1,14 @@
 -- A set holds a domain where the binary digit of its number is set. The prevailing domain is the lowest-numbered one that a field holds, the giving domain
 -- the lowest-numbered one that a field and a local context both hold. By induction on the digits: those below the lowest set one are 0, and it is 1.
-use Prim.Native.Nat.{ℕ, zero, suc, _+_, _-_, _*_, _/_, _%_, _^_, _<_}
+use Prim.Native.Nat.{ℕ, zero, suc, _+_, _-_, _*_, _/_, _%_, _^_, _<_, _≤_}
 use mathlib.Core.Path.{_≡_, refl, sym, ap, _∙_}
 use mathlib.Core.Bool.{Bool, true, false, not, _&&_, _||_, Bool·beq, true≢false}
 use borrow.Author.Tests.{eqb-true, eqb-false, ne-eqb, ltb-true, ltb-false}
-use lib.Bits.{bitAnd, bitOr, and-le-r, and-mask, and-high, and-mod, and-shr, or-lt, or-mod, or-shr}
+use lib.Bits.{bitAnd, bitOr, and-zero-l, and-le-r, and-mask, and-high, and-mod, and-shr, or-lt, or-mod, or-shr}
 use lib.Count.{trailingZeros, under}
 use lib.Dec.{eqb, ltb}
-use lib.Pow.{pow-pos, pow-add}
-use native.Mathlib.Nat.{pow-suc, pow-succ', div-div-eq-div-mul, div-one, zero-mul, suc-mul}
+use lib.Pow.{pow-pos, pow-add, mod-pow-add}
+use native.Mathlib.Nat.{pow-suc, pow-succ', div-div-eq-div-mul, div-one, zero-mul, suc-mul, mod-one, mod-eq-of-lt}
 use native.Mathlib.Omega.{arith}
 use Rattle.rules.specs.Domains.{domainBit, holds, withBit, withoutBit, prevailing, givingDomain}
 use Rattle.rules.specs.Refusals.{pick}
@@ -170,6 +170,25 @@ changed-fits field s =
 pub both-held : (one two s : ℕ) → holds (bitAnd one two) s ≡ true → (holds one s ≡ true) × (holds two s ≡ true)
 both-held one two s h = and-both (holds one s) (holds two s) (sym (held-both one two s) ∙ h)
 
+-- the digits below k of two sets that hold the same domains below k
+digits-alike : (k a b : ℕ) → k ≤ 16 → ((s : ℕ) → s < k → holds a s ≡ holds b s) → a % 2 ^ k ≡ b % 2 ^ k
+digits-alike zero a b few same = mod-one a ∙ sym (mod-one b)
+digits-alike (suc k) a b few same =
+    rw (next a, next b, digits-alike k a b (omega arith) (λ s below. same s (omega arith)), last)
+  where
+    next : (n : ℕ) → n % 2 ^ suc k ≡ (n / 2 ^ k % 2) * 2 ^ k + n % 2 ^ k
+    next n = let e : suc k ≡ 1 + k = omega arith in rw e (mod-pow-add n 1 k)
+
+    last : a / 2 ^ k % 2 ≡ b / 2 ^ k % 2
+    last =
+        two-digits (λ x y. not (eqb x 0) ≡ not (eqb y 0) → x ≡ y) (λ e. refl) (λ e. absurd (true≢false (sym e))) (λ e. absurd (true≢false e)) (λ e. refl)
+        (a / 2 ^ k % 2) (b / 2 ^ k % 2) (digit (a / 2 ^ k)) (digit (b / 2 ^ k))
+        (sym (held-digit a k (omega arith)) ∙ same k (omega arith) ∙ held-digit b k (omega arith))
+
+-- RULES 1.6: two numbers of sixteen bits that hold the same domains are the same
+pub held-alike : (a b : ℕ) → a < 65536 → b < 65536 → ((s : ℕ) → s < 16 → holds a s ≡ holds b s) → a ≡ b
+held-alike a b small small′ same = sym (mod-eq-of-lt small) ∙ digits-alike 16 a b (omega arith) same ∙ mod-eq-of-lt small′
+
 -- the lowest set digit of a set that is not empty is a domain that it holds, and it holds none of lower number
 pub lowest-held : (set : ℕ) → eqb set 0 ≡ false → set < 65536
     → (trailingZeros 16 set < 16) × (holds set (trailingZeros 16 set) ≡ true) × ((s : ℕ) → s < trailingZeros 16 set → holds set s ≡ false)
@@ -180,6 +199,17 @@ lowest-held set some small =
       rw (held-digit set (trailingZeros 16 set) (lowest .0), lowest .1),
       λ s below. rw (held-digit set s (omega (arith, lowest .0)), below-unset 16 set s below),
     )
+
+-- RULES 1.6: two sets share no domain where AND is 0, and some domain where it is not
+pub none-shared : (one two : ℕ) → eqb (bitAnd one two) 0 ≡ true → (s : ℕ) → holds one s && holds two s ≡ false
+none-shared one two none s =
+    sym (held-both one two s) ∙ ap (λ (set : ℕ). holds set s) (eqb-true (bitAnd one two) 0 none)
+    ∙ ap (λ (set : ℕ). not (eqb set 0)) (and-zero-l (domainBit s))
+
+pub one-shared : (one two : ℕ) → bitAnd one two < 65536 → eqb (bitAnd one two) 0 ≡ false → (s : ℕ) × (holds one s && holds two s ≡ true)
+one-shared one two small some =
+    let lowest = lowest-held (bitAnd one two) some small in
+    (_, sym (held-both one two _) ∙ lowest .1)
 
 -- RULES 1.8: where a domain prevails, the field holds it and none of lower number
 pub prevailing-lowest : (field d : ℕ) → field < 65536 → prevailing field ≡ At d

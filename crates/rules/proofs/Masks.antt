@@ -2,21 +2,20 @@
 -- the global context. By cases over the mode, the flag and what the two share.
 use Prim.Native.Nat.{ℕ, _<_}
 use mathlib.Core.Path.{_≡_, refl, sym, ap, subst, _∙_}
-use mathlib.Core.Bool.{Bool, true, false, not, _&&_, true≢false}
+use mathlib.Core.Bool.{Bool, true, false, _&&_, true≢false}
 use mathlib.Core.List.{[], _∷_}
 use mathlib.Core.Logic.{_↔_}
-use borrow.Author.Tests.{eqb-true}
 use native.Mathlib.Omega.{arith}
-use lib.Bits.{bitAnd, and-zero-l, and-zero-r, and-comm, and-le-l}
+use lib.Bits.{bitAnd, and-zero-r, and-comm, and-le-l}
 use lib.Dec.{eqb}
 use Rattle.rules.specs.Refusals.{first, _⇒_}
 use Rattle.rules.specs.Registers.{isPrivileged, isEmptyMask, localContext, maskedOf}
-use Rattle.rules.specs.Domains.{holds, domainBit}
+use Rattle.rules.specs.Domains.{holds}
 use Rattle.rules.specs.declared.registers.Mode.{Mode}
 use Rattle.rules.specs.declared.registers.Mode.the-variants.{User, Privileged}
 use Rattle.rules.specs.declared.registers.Registers.{Registers}
 use Rattle.rules.proofs.Laws.{mask-replaced}
-use Rattle.rules.proofs.Lowest.{held-both, lowest-held}
+use Rattle.rules.proofs.Lowest.{none-shared, one-shared}
 
 -- RULES 2.11, 3.8: where the mask command on a record gives each number
 pub data MaskGives (r : Registers) (bits : ℕ) : ℕ → Type 0 where
@@ -26,16 +25,9 @@ pub data MaskGives (r : Registers) (bits : ℕ) : ℕ → Type 0 where
   taken : r .mode ≡ User → r .pending ≡ false → (s : ℕ) → holds bits s && holds (r .context) s ≡ true → MaskGives r bits 0
 
 module _ (r : Registers) (bits : ℕ) where
-  -- an empty mask has no domain in common with the global context, and any other mask has one
-  none-shared : isEmptyMask r bits ≡ true → (s : ℕ) → holds bits s && holds (r .context) s ≡ false
-  none-shared e s =
-      sym (held-both bits (r .context) s) ∙ ap (λ (set : ℕ). holds set s) (eqb-true (bitAnd bits (r .context)) 0 e)
-      ∙ ap (λ (set : ℕ). not (eqb set 0)) (and-zero-l (domainBit s))
-
-  one-shared : bits < 65536 → isEmptyMask r bits ≡ false → (s : ℕ) × (holds bits s && holds (r .context) s ≡ true)
-  one-shared small e =
-      let lowest = lowest-held (bitAnd bits (r .context)) e (omega (arith, and-le-l bits (r .context))) in
-      (_, sym (held-both bits (r .context) _) ∙ lowest .1)
+  -- a mask that is not empty has a domain in common with the global context
+  mask-shares : bits < 65536 → isEmptyMask r bits ≡ false → (s : ℕ) × (holds bits s && holds (r .context) s ≡ true)
+  mask-shares small = one-shared bits (r .context) (omega (arith, and-le-l bits (r .context)))
 
   one-given : bits < 65536 → (n : ℕ) × MaskGives r bits n
   one-given small = split (r .mode) refl (r .pending) refl (isEmptyMask r bits) refl
@@ -44,8 +36,8 @@ module _ (r : Registers) (bits : ℕ) where
           → (n : ℕ) × MaskGives r bits n
       split Privileged m flag f none e = (6, privileged m)
       split User m true f none e = (8, pending m f)
-      split User m false f true e = (19, empty m f (none-shared e))
-      split User m false f false e = let s = one-shared small e in (0, taken m f (s .0) (s .1))
+      split User m false f true e = (19, empty m f (none-shared bits (r .context) e))
+      split User m false f false e = let s = mask-shares small e in (0, taken m f (s .0) (s .1))
 
   given-number : bits < 65536 → {n : ℕ} → MaskGives r bits n → maskedOf r bits .number ≡ n
   unfolding maskedOf
@@ -55,11 +47,11 @@ module _ (r : Registers) (bits : ℕ) where
     where
       split : (b : Bool) → isEmptyMask r bits ≡ b → b ≡ true
       split true e = refl
-      split false e = let s = one-shared small e in absurd (true≢false (sym (s .1) ∙ none (s .0)))
+      split false e = let s = mask-shares small e in absurd (true≢false (sym (s .1) ∙ none (s .0)))
   given-number small (taken m f s share) = rw (m, f, split (isEmptyMask r bits) refl)
     where
       split : (b : Bool) → isEmptyMask r bits ≡ b → b ≡ false
-      split true e = absurd (true≢false (sym share ∙ none-shared e s))
+      split true e = absurd (true≢false (sym share ∙ none-shared bits (r .context) e s))
       split false e = refl
 
   -- RULES 2.11, 3.8: each number exactly where it is due: 19 where no domain is in the mask and in the global context, 0 where one is

@@ -1,0 +1,6 @@
+pub mod Order
+pub mod Within
+pub mod Steps
+pub mod Lists
+pub mod Pairs
+pub mod Numbers

@@ -1,0 +1,101 @@
+-- When a mask allows a pair. Every access to a page, of either width, is judged alike under a mask in user mode with the flag clear: by whether the field and the local
+-- context share a domain. So what a pair needs is a domain that its field and the global context share. From the access's own conditions, over the bytes touched.
+use Prim.Native.Nat.{ℕ, _*_, _/_, _^_, _<_, _≤_}
+use mathlib.Core.Path.{_≡_, refl, sym, ap, subst, _∙_}
+use mathlib.Core.Bool.{Bool, true, false, not, _||_}
+use mathlib.Core.List.{List, [], _∷_, _++_, map}
+use mathlib.Core.Logic.{_↔_}
+use borrow.Author.Tests.{eqb-true, le-leb, lt-leb, leb-true, ltb-true, not-true, not-false}
+use native.Mathlib.Nat.{div-lt-iff-lt-mul, mul-div-cancel}
+use native.Mathlib.Omega.{arith}
+use lib.Bits.{bitAnd}
+use lib.Dec.{eqb, ltb}
+use lib.Pow.{pow-pos}
+use Rattle.rules.specs.Refusals.{Check, _⇒_, first, pick}
+use Rattle.rules.proofs.Bits.{and-assoc}
+use Rattle.machine.specs.Machine.{isRight, isSound, fieldOf, memorySize}
+use Rattle.machine.specs.Calls.{any, touched, accessChecks, callOf, checksOf, isDenied, isOutsideMemory, numberOf}
+use Rattle.machine.specs.declared.record.Machine.{Machine}
+use Rattle.machine.specs.declared.record.Width.{Width}
+use Rattle.machine.specs.declared.record.Width.the-variants.{One}
+use Rattle.machine.specs.declared.record.Call.the-variants.{Access}
+use Rattle.machine.proofs.Sound.{sound-facts, moved-sound}
+use Rattle.machine.proofs.Touched.{Touches, first-touched, none-met, some-meets}
+use Rattle.masks.specs.Least.{rightOf, pageIn, underMask, denies, willDo, pairChecks}
+use Rattle.masks.specs.Search.{needOf, isUnmet, meetsAll}
+
+-- an access that touches no byte but of one page
+abbrev pub OnPage : Machine → Width → (address page : ℕ) → Type 0
+OnPage m width address page = (byte : ℕ) → Touches width address byte → byte / 2 ^ m .exponent ≡ page
+
+module _ (m : Machine) (sound : isSound m ≡ true) (mask : ℕ) where
+  under-sound : isSound (underMask m mask) ≡ true
+  under-sound =
+      let s = sound-facts m sound in
+      moved-sound m (underMask m mask) (refl, refl, refl) sound (s .depth-most) (s .current-below) refl (s .violation-fits)
+
+  -- RULES 12.2: every access to a page is answered 0 or 9, by whether field and local context share a domain
+  pub page-judged : (width : Width) (right page address : ℕ) → right ≤ 1 → page < m .pages → OnPage m width address page
+      → callOf (underMask m mask) (Access width right address) .number
+      ≡ pick (eqb (bitAnd (fieldOf m right page) (bitAnd (m .registers .context) mask)) 0) 9 0
+  unfolding callOf checksOf accessChecks
+  page-judged width right page address known counted on =
+      rw (under-sound, le-leb right 1 known, inside) (split (eqb (bitAnd (fieldOf m right page) (bitAnd (m .registers .context) mask)) 0) refl)
+    where
+      inside : any (isOutsideMemory (underMask m mask)) (touched width address) ≡ false
+      inside =
+          none-met (isOutsideMemory (underMask m mask)) width address (λ byte touches.
+          lt-leb (memorySize m) byte (div-lt-iff-lt-mul (pow-pos (m .exponent)) .0 (rw (on byte touches) counted)))
+
+      judged : (byte : ℕ) → Touches width address byte
+          → isDenied (underMask m mask) right byte ≡ eqb (bitAnd (fieldOf m right page) (bitAnd (m .registers .context) mask)) 0
+      judged byte touches = rw (on byte touches)
+
+      split : (b : Bool) → eqb (bitAnd (fieldOf m right page) (bitAnd (m .registers .context) mask)) 0 ≡ b
+          → first ((any (isDenied (underMask m mask) right) (touched width address) ⇒ 9) ∷ []) ≡ pick b 9 0
+      split true e =
+          rw (some-meets (isDenied (underMask m mask) right) width address address (first-touched width address)
+          (judged address (first-touched width address) ∙ e))
+      split false e = rw (none-met (isDenied (underMask m mask) right) width address (λ byte touches. judged byte touches ∙ e))
+
+  -- the first byte of a page is on it
+  first-on : (page : ℕ) → OnPage m One (page * 2 ^ m .exponent) page
+  first-on page byte touches =
+      let here : byte ≡ page * 2 ^ m .exponent = omega (arith, touches .0, touches .1) in
+      rw here (mul-div-cancel page (pow-pos (m .exponent)))
+
+  -- so a mask denies a pair where they share none
+  pub denied-need : (pair : ℕ) → rightOf pair ≤ 1 → pageIn pair < m .pages
+      → denies m mask pair ≡ eqb (bitAnd (fieldOf m (rightOf pair) (pageIn pair)) (bitAnd (m .registers .context) mask)) 0
+  denied-need pair known counted =
+      rw (page-judged One (rightOf pair) (pageIn pair) (pageIn pair * 2 ^ m .exponent) known counted (first-on (pageIn pair)))
+      (split (eqb (bitAnd (fieldOf m (rightOf pair) (pageIn pair)) (bitAnd (m .registers .context) mask)) 0))
+    where
+      split : (b : Bool) → not (eqb (pick b 9 0) 0) ≡ b
+      split true = refl
+      split false = refl
+
+-- the pairs of a list of which none is bad
+pub good-pair : (pages pair : ℕ) (pairs : List ℕ) → first (pairChecks pages (pair ∷ pairs)) ≡ 0
+    → (rightOf pair ≤ 1) × (pageIn pair < pages) × (first (pairChecks pages pairs) ≡ 0)
+unfolding pairChecks
+good-pair pages pair pairs none = split (isRight (rightOf pair)) refl (ltb (pageIn pair) pages) refl none
+  where
+    split : (known : Bool) → isRight (rightOf pair) ≡ known → (counted : Bool) → ltb (pageIn pair) pages ≡ counted
+        → first ((not known ⇒ 2) ∷ (not counted ⇒ 4) ∷ pairChecks pages pairs) ≡ 0
+        → (rightOf pair ≤ 1) × (pageIn pair < pages) × (first (pairChecks pages pairs) ≡ 0)
+    split true k true l rest = (leb-true _ _ k, ltb-true _ _ l, rest)
+    split true k false l rest = absurd (omega arith)
+    split false k counted l rest = absurd (omega arith)
+
+-- so a mask will do for such a list exactly where it meets what each pair needs
+pub needs-judged : (m : Machine) → isSound m ≡ true → (pairs : List ℕ) → first (pairChecks (m .pages) pairs) ≡ 0 → (mask : ℕ)
+    → willDo m pairs mask ≡ meetsAll (map (needOf (m .fields) (m .registers .context)) pairs) mask
+needs-judged m sound pairs none mask = ap not (each pairs none)
+  where
+    each : (pairs : List ℕ) → first (pairChecks (m .pages) pairs) ≡ 0
+        → any (denies m mask) pairs ≡ any (isUnmet mask) (map (needOf (m .fields) (m .registers .context)) pairs)
+    each [] none = refl
+    each (pair ∷ pairs) none =
+        let good = good-pair (m .pages) pair pairs none in
+        rw (denied-need m sound mask pair (good .0) (good .1), and-assoc (fieldOf m (rightOf pair) (pageIn pair)) (m .registers .context) mask, each pairs (good .2))
