@@ -8,7 +8,9 @@ mod counts;
 mod histories;
 mod image;
 mod inputs;
+mod least;
 mod machine;
+mod masks;
 mod planner;
 mod plans;
 mod random;
@@ -30,7 +32,9 @@ const USAGE: &str = "usage: oracle text | answers | compare SEED RUNS
        oracle cases-input | cases-output | cases-list | cases-text
        oracle runs-random SEED RUNS | writes-random SEED RUNS
        oracle plans-input | plans-output | plans-list | plans-text
-       oracle plans-random SEED RUNS";
+       oracle plans-random SEED RUNS
+       oracle masks-input | masks-output | masks-list | masks-text
+       oracle masks-random SEED RUNS";
 const NUMBERS: &str = "SEED and RUNS are decimal numbers";
 
 fn main() -> ExitCode {
@@ -50,14 +54,19 @@ fn main() -> ExitCode {
         ["plans-output"] => plans::output().into_bytes(),
         ["plans-list"] => plans::listing().into_bytes(),
         ["plans-text"] => plans::text(&standard_input()).into_bytes(),
-        [sort @ ("runs-random" | "writes-random" | "plans-random"), seed, runs] => {
+        ["masks-input"] => masks::input(),
+        ["masks-output"] => masks::output().into_bytes(),
+        ["masks-list"] => masks::listing().into_bytes(),
+        ["masks-text"] => masks::text(&standard_input()).into_bytes(),
+        [sort @ ("runs-random" | "writes-random" | "plans-random" | "masks-random"), seed, runs] => {
             let (Ok(seed), Ok(runs)) = (seed.parse(), runs.parse()) else {
                 return fail(NUMBERS);
             };
             let file = match sort {
                 "runs-random" => cases::many::file(seed, runs),
                 "writes-random" => writes::many::file(seed, runs),
-                _ => plans::many::file(seed, runs),
+                "plans-random" => plans::many::file(seed, runs),
+                _ => masks::many::file(seed, runs),
             };
             match file {
                 Ok(file) => file,
