@@ -26,7 +26,7 @@ pub any-same : {p q : ℕ → Bool} → ((x : ℕ) → p x ≡ q x) → (l : Lis
 any-same same [] = refl
 any-same same (x ∷ rest) = rw (same x, any-same same rest)
 
-neither : (a b : Bool) → a || b ≡ false → (a ≡ false) × (b ≡ false)
+pub neither : (a b : Bool) → a || b ≡ false → (a ≡ false) × (b ≡ false)
 neither true b h = absurd (true≢false h)
 neither false b h = (refl, h)
 

@@ -4,3 +4,5 @@ pub mod Steps
 pub mod Lists
 pub mod Pairs
 pub mod Numbers
+pub mod Bad
+pub mod Least

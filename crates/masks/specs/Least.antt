@@ -27,7 +27,7 @@ abbrev pub underMask : Machine → ℕ → Machine
 underMask m mask = withRegisters (record { context = m .registers .context; mask = mask; mode = User; pending = false }) m
 
 -- RULES 12.2: under a mask a pair is denied where the access for its right to the first byte of its page is not answered 0. No other byte of the page is
--- answered otherwise (`allowed-pages`).
+-- answered otherwise (`pair-allowed`).
 abbrev pub denies : Machine → (mask pair : ℕ) → Bool
 denies m mask pair = not (eqb (callOf (underMask m mask) (Access One (rightOf pair) (pageIn pair * 2 ^ m .exponent)) .number) 0)
 
