@@ -38,6 +38,14 @@ unfolding pairChecks
 pairs-next pages pairs i below =
     rw (add-one, drop-cons pairs i 0) (pairs-then pages (getD pairs i 0 ∷ []) (pairChecks pages (drop (suc i) pairs)))
 
+-- one number more is stored behind those that stand at the start of a list
+pub stored-next : (done list : List ℕ) (v i : ℕ) → length done ≡ i → i < length list
+    → set (done ++ drop i list) i v ≡ done ++ (v ∷ []) ++ drop (i + 1) list
+stored-next done list v i long below =
+    ap (λ (rest : List ℕ). set (done ++ rest) i v) (drop-cons list i 0 below)
+    ∙ set-at done (getD list i 0) (drop (suc i) list) v i long
+    ∙ rw (add-one i) (sym (append-assoc done (v ∷ []) (drop (suc i) list)))
+
 -- what the pairs so far need stands before the rest of a list, and the next goes after it
 module _ (need : ℕ → ℕ) (pairs list : List ℕ) (i : ℕ) where
   pub needs-long : i ≤ length pairs → length pairs ≤ length list → length (map need (take i pairs) ++ drop i list) ≡ length list
@@ -46,8 +54,7 @@ module _ (need : ℕ → ℕ) (pairs list : List ℕ) (i : ℕ) where
   pub needs-next : i < length pairs → length pairs ≤ length list
       → set (map need (take i pairs) ++ drop i list) i (need (getD pairs i 0)) ≡ map need (take (i + 1) pairs) ++ drop (i + 1) list
   needs-next below room =
-      let v = need (getD pairs i 0) in
-      let long : length (map need (take i pairs)) ≡ i = simp (length-map, length-take) (omega arith) in
-      ap (λ (rest : List ℕ). set (map need (take i pairs) ++ rest) i v) (drop-cons list i 0 (omega arith))
-      ∙ set-at (map need (take i pairs)) (getD list i 0) (drop (suc i) list) v i long
-      ∙ sym (rw (add-one i, take-suc pairs i 0 below) (rw (map-append need (take i pairs) (getD pairs i 0 ∷ [])) (append-assoc (map need (take i pairs)) (v ∷ []) (drop (suc i) list))))
+      let next : map need (take i pairs) ++ (need (getD pairs i 0) ∷ []) ≡ map need (take (i + 1) pairs) =
+      sym (rw (add-one i, take-suc pairs i 0 below) (map-append need (take i pairs) (getD pairs i 0 ∷ []))) in
+      stored-next (map need (take i pairs)) list (need (getD pairs i 0)) i (simp (length-map, length-take) (omega arith)) (omega arith)
+      ∙ ap (λ (done : List ℕ). done ++ drop (i + 1) list) next
