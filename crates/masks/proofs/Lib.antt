@@ -6,3 +6,4 @@ pub mod Pairs
 pub mod Numbers
 pub mod Bad
 pub mod Least
+pub mod Pinned
