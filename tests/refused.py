@@ -36,8 +36,9 @@ def refused(log, name):
         return True
     if re.search(rf'^fn \S*::{name}: ', log, re.M):
         # Any answer to a need counts, also one that stands in the line that puts the answers together, where a search finds none, an
-        # equation is missing or a rewriting leaves something to show.
-        where = rf'/{name}/Proof\.antt:\d+:\d+: error: `(?!\S*-spec`: (?!`search`: no proof of|list the missing equation|give a proof of that))\S+`'
+        # equation is missing or a rewriting leaves something to show. Functions that call each other, or one that calls itself, have a proof
+        # together, in a folder named after all of them, with a + before each.
+        where = rf'/(?:[+\w]*\+)?{name}(?:\+[+\w]*)?/Proof\.antt:\d+:\d+: error: `(?!\S*-spec`: (?!`search`: no proof of|list the missing equation|give a proof of that))\S+`'
     else:
         where = rf'/[A-Z]\w*\.antt:\d+:\d+: error: `{name}`'
     errors = re.findall(rf'{where}: (.*)', log)

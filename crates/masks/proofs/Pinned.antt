@@ -13,7 +13,7 @@ use Rattle.rules.specs.Refusals.{_⇒_, first, pick}
 use Rattle.rules.specs.declared.registers.Mode.the-variants.{User, Privileged}
 use Rattle.rules.specs.declared.registers.Registers.{Registers}
 use Rattle.machine.specs.Machine.{isSound}
-use Rattle.machine.specs.Calls.{accessChecks, after, any, callOf, checksOf, effectOf}
+use Rattle.machine.specs.Calls.{accessChecks, any, callOf, checksOf}
 use Rattle.machine.specs.declared.record.Machine.{Machine}
 use Rattle.machine.specs.declared.record.Width.the-variants.{One}
 use Rattle.machine.specs.declared.record.Call.the-variants.{Access}
@@ -42,12 +42,19 @@ pub denies-spelled : (m : Machine) (mask pair : ℕ)
     → denies m mask pair ≡ not (eqb (callOf (underMask m mask) (Access One (pair / 65536) (pair % 65536 * 2 ^ m .exponent)) .number) 0)
 denies-spelled m mask pair = refl
 
--- RULES 12.3: the masks within a context
+-- RULES 12.3: the masks within a context, for every context and mask, and some lists of them
+pub masks-spelled : (context mask s : ℕ)
+    → (masksFrom context mask 0 ≡ mask ∷ [])
+    × (masksFrom context mask (suc s) ≡ masksFrom context mask s ++ pick (holds context s) (masksFrom context (withBit mask s) s) [])
+    × (masksWithin context ≡ masksFrom context 0 16)
+unfolding masksFrom
+masks-spelled context mask s = (refl, refl, refl)
+
 pub masks-listed :
     (masksWithin 0 ≡ 0 ∷ []) × (masksWithin 1 ≡ 0 ∷ 1 ∷ []) × (masksWithin 6 ≡ 0 ∷ 2 ∷ 4 ∷ 6 ∷ [])
-    × (masksWithin 11 ≡ 0 ∷ 1 ∷ 2 ∷ 3 ∷ 8 ∷ 9 ∷ 10 ∷ 11 ∷ []) × (masksWithin 32769 ≡ 0 ∷ 1 ∷ 32768 ∷ 32769 ∷ []) × (masksWithin 65536 ≡ 0 ∷ [])
+    × (masksWithin 11 ≡ 0 ∷ 1 ∷ 2 ∷ 3 ∷ 8 ∷ 9 ∷ 10 ∷ 11 ∷ []) × (masksWithin 32769 ≡ 0 ∷ 1 ∷ 32768 ∷ 32769 ∷ [])
 unfolding masksFrom domainBit
-masks-listed = (refl, refl, refl, refl, refl, refl)
+masks-listed = (refl, refl, refl, refl, refl)
 
 -- RULES 12.3: how many domains, of sixteen
 pub domains-counted : map domainCount (0 ∷ 1 ∷ 2 ∷ 3 ∷ 7 ∷ 8 ∷ 170 ∷ 32768 ∷ 32769 ∷ 65535 ∷ 65536 ∷ []) ≡ 0 ∷ 1 ∷ 1 ∷ 2 ∷ 3 ∷ 1 ∷ 4 ∷ 1 ∷ 2 ∷ 16 ∷ 0 ∷ []
@@ -77,57 +84,81 @@ pub passing-computed : (passing (λ n. ltb 2 n) (1 ∷ 3 ∷ 2 ∷ 5 ∷ []) ≡
 unfolding passing
 passing-computed = (refl, refl, refl)
 
--- RULES 12.4: the conditions and the mask, for every machine and list
-pub least-spelled : (m : Machine) (pairs : List ℕ)
-    → let masks = passing (λ mask. not (any (denies m mask) pairs)) (masksFrom (m .registers .context) 0 16) in
-    let number : ℕ =
-    pick (not (isSound m)) 1 (pick (ltb 64 (length pairs)) 33 (first (pairChecks (m .pages) pairs ++ (eqb (length masks) 0 ⇒ 34) ∷ []))) in
-    leastMaskOf m pairs ≡ record { number = number; mask = pick (eqb number 0) (leastOf masks) 0 }
-unfolding leastMaskOf leastChecks
-least-spelled m pairs = refl
+-- RULES 12.4: the conditions of a list of pairs, for every list
+pub pairs-spelled : (pages pair : ℕ) (rest : List ℕ)
+    → (pairChecks pages [] ≡ [])
+    × (pairChecks pages (pair ∷ rest) ≡ (not (leb (pair / 65536) 1) ⇒ 2) ∷ (not (ltb (pair % 65536) pages) ⇒ 4) ∷ pairChecks pages rest)
+unfolding pairChecks
+pairs-spelled pages pair rest = (refl, refl)
 
--- a node of three pages of 256 bytes with these live registers: READ of page 0 has domains 0 and 3, of page 1 domains 1 and 3, of page 2 domains 2 and 3; WRITE of page 0 has
--- none, of page 1 domain 1, of page 2 domain 2
-abbrev node : Registers → Machine
-node registers = whole 3 8 (9 ∷ 0 ∷ 10 ∷ 2 ∷ 12 ∷ 4 ∷ []) registers 0 [] 1 0 (stored 7 3 User ∷ [])
+-- RULES 12.4: all conditions, for every machine and list
+pub checks-spelled : (m : Machine) (pairs : List ℕ)
+    → leastChecks m pairs
+    ≡ (not (isSound m) ⇒ 1) ∷ (ltb 64 (length pairs) ⇒ 33) ∷ pairChecks (m .pages) pairs ++ (eqb (length (candidates m pairs)) 0 ⇒ 34) ∷ []
+unfolding leastChecks
+checks-spelled m pairs = refl
+
+-- RULES 12.3, 12.5: the number and the mask, for every machine and list
+pub mask-spelled : (m : Machine) (pairs : List ℕ)
+    → leastMaskOf m pairs
+    ≡ record { number = first (leastChecks m pairs); mask = pick (eqb (first (leastChecks m pairs)) 0) (leastOf (candidates m pairs)) 0 }
+unfolding leastMaskOf
+mask-spelled m pairs = refl
+
+-- a node of two pages of 32 bytes with these live registers, of which these are READ and WRITE of page 0 and of page 1
+abbrev node : List ℕ → Registers → Machine
+node fields registers = whole 2 5 fields registers 0 [] 1 0 (stored 0 0 User ∷ [])
 
 abbrev gives : ℕ → ℕ → LeastMask
 gives number mask = record { number = number; mask = mask }
 
--- RULES 12.3, 12.4: what is given with domains 0 to 2 in the context: each right and page, more than one need, none that will do
+-- RULES 12.2, 12.3: which masks are candidates: those within the global context that deny no pair of the whole list
+pub candidates-listed :
+    (candidates (node (1 ∷ 2 ∷ []) (live 3 0 User false)) (0 ∷ 65536 ∷ []) ≡ 3 ∷ [])
+    × (candidates (node (1 ∷ 2 ∷ 3 ∷ []) (live 2 1 User false)) (1 ∷ 65536 ∷ 1 ∷ []) ≡ 2 ∷ [])
+    × (candidates (node (1 ∷ 2 ∷ []) (live 3 0 User false)) (0 ∷ 0 ∷ 65536 ∷ []) ≡ 3 ∷ [])
+unfolding passing masksFrom callOf checksOf accessChecks isSound domainBit
+candidates-listed = (refl, refl, refl)
+
+-- RULES 12.3: what is given for READ and WRITE of two pages: READ of page 0 has domain 0, WRITE of it domain 1, READ of page 1 both, WRITE of it none
 pub masks-given :
-    map (leastMaskOf (node (live 7 3 User false)))
-    ([] ∷ (0 ∷ []) ∷ (1 ∷ []) ∷ (2 ∷ []) ∷ (65537 ∷ []) ∷ (65538 ∷ []) ∷ (65536 ∷ []) ∷ (0 ∷ 1 ∷ []) ∷ (2 ∷ 0 ∷ []) ∷ (0 ∷ 1 ∷ 2 ∷ []) ∷ (1 ∷ 65537 ∷ 1 ∷ []) ∷ (0 ∷ 65536 ∷ []) ∷ [])
-    ≡ gives 0 0 ∷ gives 0 1 ∷ gives 0 2 ∷ gives 0 4 ∷ gives 0 2 ∷ gives 0 4 ∷ gives 34 0 ∷ gives 0 3 ∷ gives 0 5 ∷ gives 0 7 ∷ gives 0 2 ∷ gives 34 0 ∷ []
-unfolding leastMaskOf leastChecks pairChecks passing masksFrom onesIn callOf checksOf effectOf accessChecks after isSound domainBit
+    map (leastMaskOf (node (1 ∷ 2 ∷ 3 ∷ 0 ∷ []) (live 3 0 User false))) ([] ∷ (0 ∷ []) ∷ (65536 ∷ []) ∷ (1 ∷ []) ∷ (65537 ∷ []) ∷ (1 ∷ 65536 ∷ 0 ∷ []) ∷ [])
+    ≡ gives 0 0 ∷ gives 0 1 ∷ gives 0 2 ∷ gives 0 1 ∷ gives 34 0 ∷ gives 0 3 ∷ []
+unfolding leastMaskOf leastChecks pairChecks passing masksFrom onesIn callOf checksOf accessChecks isSound domainBit
 masks-given = refl
 
--- RULES 12.3: fewer domains before a smaller number, and of as many the smallest number; other domains are not in the context
+-- RULES 12.3: one domain before two of smaller number; of two domains each the smallest number, and it is not the first need's smallest
 pub ties-given :
-    map (λ (context : ℕ). leastMaskOf (node (live context 0 User false)) (0 ∷ 1 ∷ [])) (3 ∷ 8 ∷ 11 ∷ 15 ∷ 9 ∷ 1 ∷ 0 ∷ [])
-    ∷ map (λ (context : ℕ). leastMaskOf (whole 2 5 (3 ∷ 12 ∷ 6 ∷ 9 ∷ []) (live context 0 User false) 0 [] 1 0 (stored 0 0 User ∷ [])) (0 ∷ 65536 ∷ [])) (15 ∷ 14 ∷ 13 ∷ 10 ∷ 12 ∷ [])
+    leastMaskOf (node (5 ∷ 6 ∷ []) (live 7 0 User false)) (0 ∷ 65536 ∷ [])
+    ∷ leastMaskOf (node (5 ∷ 6 ∷ []) (live 3 0 User false)) (0 ∷ 65536 ∷ [])
+    ∷ leastMaskOf (node (6 ∷ 9 ∷ []) (live 15 0 User false)) (0 ∷ 65536 ∷ [])
     ∷ []
-    ≡ (gives 0 3 ∷ gives 0 8 ∷ gives 0 8 ∷ gives 0 8 ∷ gives 0 8 ∷ gives 34 0 ∷ gives 34 0 ∷ [])
-    ∷ (gives 0 5 ∷ gives 0 6 ∷ gives 0 5 ∷ gives 0 10 ∷ gives 34 0 ∷ [])
-    ∷ []
-unfolding leastMaskOf leastChecks pairChecks passing masksFrom onesIn callOf checksOf effectOf accessChecks after isSound domainBit
+    ≡ gives 0 4 ∷ gives 0 3 ∷ gives 0 3 ∷ []
+unfolding leastMaskOf leastChecks pairChecks passing masksFrom onesIn callOf checksOf accessChecks isSound domainBit
 ties-given = refl
 
--- RULES 12.4: the order of the refusals
+-- RULES 12.4: the order of the refusals of pairs
 pub refusals-ordered :
-    map (λ (pairs : List ℕ). leastMaskOf (node (live 7 3 User false)) pairs .number)
-    ((131072 ∷ []) ∷ (3 ∷ []) ∷ (131075 ∷ []) ∷ (65539 ∷ []) ∷ (3 ∷ 131072 ∷ []) ∷ (131072 ∷ 3 ∷ []) ∷ (1 ∷ 3 ∷ 131072 ∷ []) ∷ (65536 ∷ 3 ∷ []) ∷ (65536 ∷ 131072 ∷ [])
-    ∷ (4294967295 ∷ []) ∷ (65535 ∷ []) ∷ replicate 64 1 ∷ replicate 65 1 ∷ replicate 65 3 ∷ replicate 65 65536 ∷ (replicate 63 1 ++ 3 ∷ []) ∷ (replicate 63 1 ++ 65536 ∷ []) ∷ [])
-    ≡ 2 ∷ 4 ∷ 2 ∷ 4 ∷ 4 ∷ 2 ∷ 4 ∷ 4 ∷ 2 ∷ 2 ∷ 4 ∷ 0 ∷ 33 ∷ 33 ∷ 33 ∷ 4 ∷ 34 ∷ []
-unfolding leastMaskOf leastChecks pairChecks passing masksFrom onesIn callOf checksOf effectOf accessChecks after isSound domainBit
+    map (λ (pairs : List ℕ). leastMaskOf (node (1 ∷ 0 ∷ []) (live 1 0 User false)) pairs .number)
+    ((131072 ∷ []) ∷ (2 ∷ []) ∷ (131074 ∷ []) ∷ (2 ∷ 131072 ∷ []) ∷ (131072 ∷ 2 ∷ []) ∷ (0 ∷ 65536 ∷ 2 ∷ 131072 ∷ []) ∷ (65536 ∷ []) ∷ [])
+    ≡ 2 ∷ 4 ∷ 2 ∷ 4 ∷ 2 ∷ 4 ∷ 34 ∷ []
+unfolding leastMaskOf leastChecks pairChecks passing masksFrom callOf checksOf accessChecks isSound domainBit
 refusals-ordered = refl
 
--- RULES 12.2, 12.4: the live mask, mode and flag play no part, but that a machine which is not sound is refused first
+-- RULES 12.4: how many pairs there may be
+pub long-lists :
+    map (λ (pairs : List ℕ). leastMaskOf (node (1 ∷ 0 ∷ []) (live 1 0 User false)) pairs .number)
+    (replicate 64 0 ∷ replicate 65 0 ∷ replicate 65 2 ∷ replicate 65 65536 ∷ (replicate 63 0 ++ 2 ∷ []) ∷ (replicate 63 0 ++ 65536 ∷ []) ∷ replicate 256 0 ∷ [])
+    ≡ 0 ∷ 33 ∷ 33 ∷ 33 ∷ 4 ∷ 34 ∷ 33 ∷ []
+unfolding leastMaskOf leastChecks pairChecks passing masksFrom callOf checksOf accessChecks isSound domainBit
+long-lists = refl
+
+-- RULES 12.2: the live mask, mode and flag play no part, but that a machine which is not sound is refused before all else
 pub registers-asked :
-    map (λ (registers : Registers). leastMaskOf (node registers) (0 ∷ []))
-    (live 7 0 User false ∷ live 7 65535 User false ∷ live 7 6 User false ∷ live 7 8 Privileged false ∷ live 7 6 User true ∷ live 7 7 Privileged true ∷ [])
-    ∷ map (leastMaskOf (node (live 7 7 Privileged true))) ([] ∷ (3 ∷ []) ∷ (65536 ∷ []) ∷ replicate 65 131075 ∷ [])
+    map (λ (registers : Registers). leastMaskOf (node (2 ∷ 0 ∷ []) registers) (0 ∷ []))
+    (live 3 0 User false ∷ live 3 1 User false ∷ live 3 65535 Privileged false ∷ live 3 1 User true ∷ live 3 3 Privileged true ∷ [])
+    ∷ map (leastMaskOf (node [] (live 3 3 Privileged true))) ([] ∷ (2 ∷ []) ∷ replicate 65 131074 ∷ [])
     ∷ []
-    ≡ (gives 0 1 ∷ gives 0 1 ∷ gives 0 1 ∷ gives 0 1 ∷ gives 0 1 ∷ gives 1 0 ∷ []) ∷ (gives 1 0 ∷ gives 1 0 ∷ gives 1 0 ∷ gives 1 0 ∷ []) ∷ []
-unfolding leastMaskOf leastChecks pairChecks passing masksFrom onesIn callOf checksOf effectOf accessChecks after isSound domainBit
+    ≡ (gives 0 2 ∷ gives 0 2 ∷ gives 0 2 ∷ gives 0 2 ∷ gives 1 0 ∷ []) ∷ (gives 1 0 ∷ gives 1 0 ∷ gives 1 0 ∷ []) ∷ []
+unfolding leastMaskOf leastChecks pairChecks passing masksFrom onesIn callOf checksOf accessChecks isSound domainBit
 registers-asked = refl

@@ -77,11 +77,8 @@ fn bad_pair(pages: u16, pairs: &[u32]) -> u8
 fn need_of(fields: &[u16], context: u16, pair: u32) -> u16
     ensures { λ r. ⌜ r ≡ needOf (now (fields .entry)) context pair ⌝ }
 {
-    read_field(
-        fields,
-        2 * (page_in(pair) as usize) + right_of(pair) as usize,
-    )
-        & context
+    let at = 2 * (page_in(pair) as usize) + right_of(pair) as usize;
+    read_field(fields, at) & context
 }
 
 // Stores what each pair needs in a lent slice, from its first place on.

@@ -1,7 +1,7 @@
 -- `leastmask::start` meets its contract: the load, and the three calls in a row.
 use mathlib.Core.Path.{_≡_, sym, _∙_}
 use borrow.Author.Needs.{needs}
-use Rattle.leastmask.proofs.Starts.{not-loaded, not-switched, turned}
+use Rattle.leastmask.proofs.Starts.{not-loaded, not-switched, turned-on}
 use Rattle.leastmask.proofs.start.Statement.{statement}
 use Rattle.leastmask.proofs.start.Tie as tie
 
@@ -37,7 +37,7 @@ returns-3 c =
     let load = loading .load .ensures in
     let enter = entering .enter .ensures in
     let switch = switching .switch-to .ensures in
-    c .leave .ensures ∙ rw (switch, enter, load) (sym (turned (start .args .image .now) (start .args .program) (rw load at (first .if1 .left)) (rw (switch, enter, load) at (second .if2 .left))))
+    c .leave .ensures ∙ rw (switch, enter, load) (sym (turned-on (start .args .image .now) (start .args .program) (rw load at (first .if1 .left)) (rw (switch, enter, load) at (second .if2 .left))))
 
 pub start-spec : {M : Type 1} → statement M
 start-spec =
