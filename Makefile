@@ -5,7 +5,7 @@
 #   make prove   removes target/ and proves every crate; no must-fail edits, no tests         (rt)
 #   make times   the same, one crate at a time, and prints the time that each takes           (rt)
 #   make test    the gate: removes target/, proofs, must-fail edits, programs, tests          (rt, bash, gcc, cargo, python3)
-#   make speed   compares the static library, the writer and the planner with plain C         (rt, gcc, valgrind)
+#   make speed   compares the library, the writer, the planner and the least mask with plain C (rt, gcc, valgrind)
 
 .PHONY: help run lib prove times test speed
 .NOTPARALLEL:
@@ -68,3 +68,5 @@ speed:
 	@tests/speed/write.sh
 	@echo "comparing the planner of contexts with the plain C program .."
 	@tests/speed/plan.sh
+	@echo "comparing the least mask with the plain C program .."
+	@tests/speed/mask.sh
