@@ -40,8 +40,9 @@
  * the BENCH_ANSWER_.. constants below: a call has one of 0 to 19, and the load
  * has 0 or one of 20 to 25. 1 and 10 do not occur in a run: a loaded machine is
  * sound, its current program has an entry, and every call leaves it so. 26 and
- * 27 are given by the writer of images alone, and 30 to 32 by the planner of
- * contexts; a run calls neither (docs/RULES.md, 5.15, 11.4).
+ * 27 are given by the writer of images alone, 30 to 32 by the planner of
+ * contexts, and 33 and 34 by the least mask; a run calls none of them
+ * (docs/RULES.md, 5.15, 11.4, 12.4).
  *
  * HOW MANY ANSWERS an input of n bytes has:
  *

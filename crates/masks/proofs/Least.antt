@@ -7,7 +7,7 @@ use mathlib.Core.List.{List, [], _∷_, List·Memᴰ, List·Memᴰ·not-nil}
 use mathlib.Core.Logic.{_↔_, ⊎-elim}
 use borrow.Author.Tests.{eqb-true, eqb-false, eq-eqb, ne-eqb, ltb-true, ltb-false, not-true, not-false}
 use native.Mathlib.Omega.{arith}
-use lib.Bits.{bitAnd, and-comm, and-self, and-le-l}
+use lib.Bits.{bitAnd, and-comm, and-self, and-le-l, and-zero-r}
 use lib.Count.{ones, onesIn}
 use lib.Dec.{eqb, ltb}
 use lib.ListN.{length, getD}
@@ -29,7 +29,7 @@ use Rattle.masks.specs.declared.LeastMask.{LeastMask}
 use Rattle.masks.proofs.Bad.{GoodBefore, PairsGive, no-right, no-page, all-good, pairs-exactly}
 use Rattle.masks.proofs.Numbers.{unsound-first, too-many, bad-given, none-given, mask-given}
 use Rattle.masks.proofs.Order.{Before, before-each-other, before-further, least-before, least-in, in-passing, passing-in, passing-none}
-use Rattle.masks.proofs.Pairs.{OnPage, Allows, pair-allowed, under-sound}
+use Rattle.masks.proofs.Pairs.{OnPage, Allows, denied-need, not-denied, pair-allowed, under-sound}
 use Rattle.masks.proofs.Within.{Within, empty-holds, within-before, within-shared, ones-counted, looked-within, looked-fits, looked-all}
 
 -- RULES 12.2: a mask allows every pair of a list
@@ -226,6 +226,19 @@ module _ (m : Machine) (pairs : List ℕ) where
   pub refused-mask-zero : (leastMaskOf m pairs .number ≡ 0 → ⊥) → leastMaskOf m pairs .mask ≡ 0
   unfolding leastMaskOf
   refused-mask-zero refused = rw (ne-eqb (leastMaskOf m pairs .number) 0 refused)
+
+  -- RULES 12.6: mask 0 is given for an empty list alone
+  pub zero-for-none : leastMaskOf m pairs .number ≡ 0 → leastMaskOf m pairs .mask ≡ 0 → length pairs ≡ 0
+  zero-for-none done empty = split (ltb 0 (length pairs)) refl
+    where
+      split : (b : Bool) → ltb 0 (length pairs) ≡ b → length pairs ≡ 0
+      split true e =
+          let pair = getD pairs 0 0 in
+          let all = subst (λ (mask : ℕ). AllowsAll m mask pairs) empty (least-given done .allows) in
+          let free = pair-allowed m 0 pair .1 (all 0 (ltb-true 0 (length pairs) e)) in
+          let known = not-denied m 0 pair free in
+          absurd (true≢false (sym (denied-need m 0 pair (known .0) (known .1) (known .2) ∙ rw (and-zero-r context, and-zero-r (fieldOf m (rightOf pair) (pageIn pair)))) ∙ free))
+      split false e = let least = ltb-false 0 (length pairs) e in omega (arith, least)
 
   -- RULES 12.6: where the mask is not 0, the mask command takes it in user mode with the flag clear, whatever the mask before, and after it every access that the pairs
   -- ask for is answered 0

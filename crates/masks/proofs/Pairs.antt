@@ -88,7 +88,7 @@ module _ (m : Machine) (mask : ℕ) where
         split false = refl
 
     -- what is known of a pair that it does not deny: the first byte of the page is on a page that is there
-    not-denied : denies m mask pair ≡ false → (isSound (underMask m mask) ≡ true) × (rightOf pair ≤ 1) × (pageIn pair < m .pages)
+    pub not-denied : denies m mask pair ≡ false → (isSound (underMask m mask) ≡ true) × (rightOf pair ≤ 1) × (pageIn pair < m .pages)
     unfolding callOf
     not-denied given =
         let first = pageIn pair * 2 ^ m .exponent in
