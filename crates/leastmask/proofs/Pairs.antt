@@ -1,6 +1,6 @@
 -- The pairs of a string of bytes, as a loop stores them: one more stands behind the others. By induction on how many there are.
 use Prim.Native.Nat.{ℕ, zero, suc, _+_, _*_, _<_, _≤_}
-use mathlib.Core.Path.{_≡_, refl, ap, _∙_}
+use mathlib.Core.Path.{_≡_, ap, _∙_}
 use mathlib.Core.List.{List, [], _∷_, _++_}
 use native.Mathlib.Nat.{mul-suc, zero-add}
 use native.Mathlib.Numerals.{add-one}

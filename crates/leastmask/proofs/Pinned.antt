@@ -1,8 +1,8 @@
 -- What the program asks, on the sample node: how it starts on each program, which registers are live then, which pairs stand in a string of bytes, and what is found. All is computed and written out.
 use Prim.Native.Nat.{ℕ}
 use mathlib.Core.Path.{_≡_, refl}
-use mathlib.Core.Bool.{Bool, true, false}
-use mathlib.Core.List.{List, [], _∷_, map}
+use mathlib.Core.Bool.{false}
+use mathlib.Core.List.{[], _∷_, map}
 use lib.Count.{onesIn}
 use lib.ListN.{drop}
 use Rattle.rules.specs.Domains.{domainBit}
@@ -14,8 +14,7 @@ use Rattle.image.specs.Description.{machineOf}
 use Rattle.image.specs.Load.{loadOf, loadChecks, lengthTests, kindTests, shapeEntryTests, shapeTests, bodyTests, describe}
 use Rattle.image.specs.Sample.{sampleBytes}
 use Rattle.masks.specs.Least.{masksFrom, passing, pairChecks, leastChecks, leastMaskOf}
-use Rattle.masks.specs.declared.LeastMask.{LeastMask}
-use Rattle.leastmask.specs.Asked.{startedOf, pairAt, pairsOf}
+use Rattle.leastmask.specs.Asked.{startedOf, pairsOf}
 
 -- RULES 12.7: how the sample starts: on its two programs, on one that is not there, and without its first byte
 pub sample-starts :

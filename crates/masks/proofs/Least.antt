@@ -5,15 +5,14 @@ use mathlib.Core.Path.{_≡_, refl, sym, ap, subst, _∙_}
 use mathlib.Core.Bool.{Bool, true, false, not, true≢false}
 use mathlib.Core.List.{List, [], _∷_, List·Memᴰ, List·Memᴰ·not-nil}
 use mathlib.Core.Logic.{_↔_, ⊎-elim}
-use borrow.Author.Tests.{eqb-true, eqb-false, eq-eqb, ne-eqb, ltb-true, ltb-false, not-true, not-false}
+use borrow.Author.Tests.{ne-eqb, ltb-true, ltb-false, not-true}
 use native.Mathlib.Omega.{arith}
 use lib.Bits.{bitAnd, and-comm, and-self, and-le-l, and-zero-r}
 use lib.Count.{ones, onesIn}
 use lib.Dec.{eqb, ltb}
 use lib.ListN.{length, getD}
 use Rattle.rules.specs.Domains.{holds}
-use Rattle.rules.specs.Refusals.{first, pick}
-use Rattle.rules.specs.Registers.{withMask}
+use Rattle.rules.specs.Refusals.{first}
 use Rattle.rules.specs.declared.registers.Mode.{Mode}
 use Rattle.rules.proofs.Bits.{and-assoc}
 use Rattle.rules.proofs.Lowest.{both-held}
@@ -23,12 +22,12 @@ use Rattle.machine.specs.declared.record.Machine.{Machine}
 use Rattle.machine.specs.declared.record.Width.{Width}
 use Rattle.machine.specs.declared.record.Call.the-variants.{Access, SetMask}
 use Rattle.machine.proofs.Touched.{any-same, neither}
-use Rattle.masks.specs.Least.{rightOf, pageIn, underMask, denies, willDo, masksWithin, candidates, domainCount, leastOf, pairChecks, leastChecks, leastMaskOf}
-use Rattle.masks.specs.Search.{refusedBy, maskFor, neededMask}
+use Rattle.masks.specs.Least.{rightOf, pageIn, underMask, denies, willDo, masksWithin, candidates, leastOf, pairChecks, leastChecks, leastMaskOf}
+use Rattle.masks.specs.Search.{refusedBy}
 use Rattle.masks.specs.declared.LeastMask.{LeastMask}
 use Rattle.masks.proofs.Bad.{GoodBefore, PairsGive, no-right, no-page, all-good, pairs-exactly}
 use Rattle.masks.proofs.Numbers.{unsound-first, too-many, bad-given, none-given, mask-given}
-use Rattle.masks.proofs.Order.{Before, before-each-other, before-further, least-before, least-in, in-passing, passing-in, passing-none}
+use Rattle.masks.proofs.Order.{Before, before-further, least-before, least-in, in-passing, passing-in, passing-none}
 use Rattle.masks.proofs.Pairs.{OnPage, Allows, denied-need, not-denied, pair-allowed, under-sound}
 use Rattle.masks.proofs.Within.{Within, empty-holds, within-before, within-shared, ones-counted, looked-within, looked-fits, looked-all}
 

@@ -1,6 +1,6 @@
 -- What is given, by the conditions that are met: behind soundness and the count of pairs it is what `mask_for` works out. From the list of conditions, pair by pair.
 use Prim.Native.Nat.{ℕ, _<_, _≤_}
-use mathlib.Core.Path.{_≡_, refl, sym, ap, _∙_}
+use mathlib.Core.Path.{_≡_, refl, sym, _∙_}
 use mathlib.Core.Bool.{Bool, true, false}
 use mathlib.Core.List.{List, [], _∷_, map}
 use borrow.Author.Tests.{eqb-true, eqb-false, le-ltb, lt-ltb, ne-eqb}

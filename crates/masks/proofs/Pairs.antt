@@ -2,8 +2,8 @@
 -- context share a domain. So what a pair needs is a domain that its field and the global context share. From the access's own conditions, over the bytes touched.
 use Prim.Native.Nat.{ℕ, suc, _*_, _/_, _^_, _<_, _≤_}
 use mathlib.Core.Path.{_≡_, refl, sym, ap, _∙_}
-use mathlib.Core.Bool.{Bool, true, false, not, _||_}
-use mathlib.Core.List.{List, [], _∷_, _++_, map}
+use mathlib.Core.Bool.{Bool, true, false, not}
+use mathlib.Core.List.{List, [], _∷_, map}
 use mathlib.Core.Logic.{_↔_}
 use borrow.Author.Tests.{eqb-true, eq-eqb, le-leb, lt-leb, leb-true, ltb-true, not-false}
 use native.Mathlib.Nat.{div-lt-iff-lt-mul, mul-div-cancel, suc-mul}
@@ -11,10 +11,10 @@ use native.Mathlib.Omega.{arith}
 use lib.Bits.{bitAnd}
 use lib.Dec.{eqb, ltb}
 use lib.Pow.{pow-pos}
-use Rattle.rules.specs.Refusals.{Check, _⇒_, first, pick}
+use Rattle.rules.specs.Refusals.{_⇒_, first, pick}
 use Rattle.rules.proofs.Bits.{and-assoc}
 use Rattle.machine.specs.Machine.{isRight, isSound, fieldOf, memorySize}
-use Rattle.machine.specs.Calls.{any, touched, accessChecks, callOf, checksOf, isDenied, isOutsideMemory, numberOf}
+use Rattle.machine.specs.Calls.{any, touched, accessChecks, callOf, checksOf, isDenied, isOutsideMemory}
 use Rattle.machine.specs.declared.record.Machine.{Machine}
 use Rattle.machine.specs.declared.record.Width.{Width}
 use Rattle.machine.specs.declared.record.Width.the-variants.{One}

@@ -1,10 +1,9 @@
 -- The definitions of the least mask held to values that are written by hand, and written a second time for every argument: a misreading that the code follows is refused here.
-use Prim.Native.Nat.{ℕ, zero, suc, _+_, _*_, _/_, _%_, _^_, _<_}
-use mathlib.Core.Path.{_≡_, refl, _∙_}
-use mathlib.Core.Bool.{Bool, true, false, not, _&&_, _||_}
+use Prim.Native.Nat.{ℕ, suc, _+_, _*_, _/_, _%_, _^_, _<_}
+use mathlib.Core.Path.{_≡_, refl}
+use mathlib.Core.Bool.{true, false, not, _&&_, _||_}
 use mathlib.Core.List.{List, [], _∷_, _++_, map}
 use native.Mathlib.Omega.{arith}
-use lib.Bits.{bitAnd}
 use lib.Count.{onesIn}
 use lib.Dec.{eqb, leb, ltb}
 use lib.ListN.{length, replicate}
@@ -13,12 +12,12 @@ use Rattle.rules.specs.Refusals.{_⇒_, first, pick}
 use Rattle.rules.specs.declared.registers.Mode.the-variants.{User, Privileged}
 use Rattle.rules.specs.declared.registers.Registers.{Registers}
 use Rattle.machine.specs.Machine.{isSound}
-use Rattle.machine.specs.Calls.{accessChecks, any, callOf, checksOf}
+use Rattle.machine.specs.Calls.{accessChecks, callOf, checksOf}
 use Rattle.machine.specs.declared.record.Machine.{Machine}
 use Rattle.machine.specs.declared.record.Width.the-variants.{One}
 use Rattle.machine.specs.declared.record.Call.the-variants.{Access}
 use Rattle.machine.proofs.Written.{holding, live, stored, whole}
-use Rattle.masks.specs.Least.{rightOf, pageIn, underMask, denies, willDo, masksFrom, masksWithin, passing, candidates, domainCount, isLess, lesser, leastOf, pairChecks, leastChecks, leastMaskOf}
+use Rattle.masks.specs.Least.{rightOf, pageIn, underMask, denies, masksFrom, masksWithin, passing, candidates, domainCount, isLess, leastOf, pairChecks, leastChecks, leastMaskOf}
 use Rattle.masks.specs.declared.LeastMask.{LeastMask}
 
 -- RULES 12.1: each pair of a right and a page has one number, which says both

@@ -1,23 +1,22 @@
 -- What the search rests on. The masks that are left to look at fall into those without the domain of greatest number that is left and those with it; none of them
 -- is before the mask that they all add to; and none meets every need where all that is left does not. From what is looked at, domain by domain.
-use Prim.Native.Nat.{ℕ, zero, suc, _+_, _-_, _*_, _/_, _%_, _^_, _<_, _≤_}
+use Prim.Native.Nat.{ℕ, zero, suc, _+_, _-_, _/_, _%_, _^_, _<_, _≤_}
 use mathlib.Core.Path.{_≡_, refl, sym, ap, ap₂, subst, _∙_}
 use mathlib.Core.Bool.{Bool, true, false, not, _&&_, _||_, true≢false, or-true, and-true, and-false}
 use mathlib.Core.List.{List, [], _∷_, _++_, append-nil, List·Memᴰ, List·Memᴰ·tail, List·Memᴰ·cases-cons, List·Memᴰ·not-nil, Memᴰ·cast}
 use mathlib.Core.Logic.{⊎-elim}
-use borrow.Author.Tests.{eqb-true, eqb-false, ltb-true, ltb-false, lt-ltb, eq-eqb, ne-eqb, not-true}
+use borrow.Author.Tests.{eqb-false, ltb-true, ltb-false, lt-ltb, eq-eqb, ne-eqb}
 use native.Mathlib.Nat.{div-eq-of-lt, div-lt-iff-lt-mul, le-div-iff-mul-le, lt-of-lt-of-le, pow-suc}
 use native.Mathlib.Omega.{arith}
-use lib.Bits.{bitAnd, bitOr, and-le-l, and-le-r, or-zero-l, or-zero-r}
-use lib.Count.{leadingZeros, leading-top}
+use lib.Bits.{bitOr, and-le-l, and-le-r, or-zero-l, or-zero-r}
+use lib.Count.{leading-top}
 use lib.Dec.{eqb, ltb}
 use lib.ListN.{length}
 use lib.Pow.{pow-mono, pow-pos}
 use Rattle.rules.specs.Domains.{domainBit, holds, withBit, withoutBit}
-use Rattle.rules.specs.Refusals.{pick}
 use Rattle.rules.proofs.Decided.{and-both}
 use Rattle.rules.proofs.Laws.{no-domain-held}
-use Rattle.rules.proofs.Lowest.{changed-fits, granted-holds, held-digit, held-either, none-shared, one-shared, revoked-holds}
+use Rattle.rules.proofs.Lowest.{granted-holds, held-digit, held-either, none-shared, one-shared, revoked-holds}
 use Rattle.machine.specs.Calls.{any}
 use Rattle.masks.specs.Least.{isLess, masksFrom, masksWithin, passing, leastOf}
 use Rattle.masks.specs.Search.{isUnmet, meetsAll, lastDomain, leastFrom}

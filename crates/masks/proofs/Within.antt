@@ -1,9 +1,9 @@
 -- Which masks are looked at: those that add to a mask some of the domains that are left, each of them and no others. By induction on the domains; and a mask that has
 -- another's domains holds as many at least and is no smaller number, by its binary digits.
-use Prim.Native.Nat.{ℕ, zero, suc, _+_, _/_, _%_, _^_, _<_, _≤_, min}
+use Prim.Native.Nat.{ℕ, zero, suc, _+_, _/_, _%_, _^_, _<_, _≤_}
 use mathlib.Core.Path.{_≡_, refl, sym, ap, subst, _∙_}
 use mathlib.Core.Bool.{Bool, true, false, not, _&&_, _||_, or-true}
-use mathlib.Core.List.{List, [], _∷_, _++_, append-nil, List·Memᴰ, List·Memᴰ·head, List·Memᴰ·append-cases, List·Memᴰ·eq-of-singleton, List·Memᴰ·not-nil, Memᴰ·append-left, Memᴰ·append-right}
+use mathlib.Core.List.{[], _++_, List·Memᴰ, List·Memᴰ·head, List·Memᴰ·append-cases, List·Memᴰ·eq-of-singleton, List·Memᴰ·not-nil, Memᴰ·append-left, Memᴰ·append-right}
 use mathlib.Core.Logic.{_⊎_, inl, inr, ⊎-elim}
 use borrow.Author.Tests.{eqb-true, eqb-false, ltb-true, ltb-false, lt-ltb, eq-eqb, ne-eqb}
 use native.Mathlib.Nat.{pow-suc}
@@ -11,7 +11,7 @@ use native.Mathlib.Omega.{arith}
 use lib.Bits.{bitAnd, bitOr, and-zero-l, and-le-l, and-le-r}
 use lib.Count.{ones, onesIn, ones-step}
 use lib.Dec.{eqb, ltb}
-use Rattle.rules.specs.Domains.{domainBit, holds, withBit, withoutBit}
+use Rattle.rules.specs.Domains.{domainBit, holds, withBit}
 use Rattle.rules.specs.Refusals.{pick}
 use Rattle.rules.proofs.Bits.{and-half, and-last}
 use Rattle.rules.proofs.Laws.{no-domain-held}

@@ -1,6 +1,6 @@
 -- The least mask for a subroutine (RULES, section 12).
 use Prim.Native.Nat.{ℕ, zero, suc, _*_, _/_, _%_, _^_}
-use mathlib.Core.Bool.{Bool, true, false, not, _&&_, _||_}
+use mathlib.Core.Bool.{Bool, false, not, _&&_, _||_}
 use mathlib.Core.List.{List, [], _∷_, _++_, foldl}
 use lib.Count.{onesIn}
 use lib.Dec.{eqb, ltb}

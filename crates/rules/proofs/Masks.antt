@@ -7,7 +7,6 @@ use mathlib.Core.List.{[], _∷_}
 use mathlib.Core.Logic.{_↔_}
 use native.Mathlib.Omega.{arith}
 use lib.Bits.{bitAnd, and-zero-r, and-comm, and-le-l}
-use lib.Dec.{eqb}
 use Rattle.rules.specs.Refusals.{first, _⇒_}
 use Rattle.rules.specs.Registers.{isPrivileged, isEmptyMask, localContext, maskedOf}
 use Rattle.rules.specs.Domains.{holds}

@@ -1,5 +1,5 @@
 -- `leastmask::print_case` meets its contract: what it prints is asked on the machine that was started.
-use mathlib.Core.Path.{_≡_, _∙_}
+use mathlib.Core.Path.{_∙_}
 use borrow.Author.Needs.{needs}
 use Rattle.leastmask.proofs.print_case.Statement.{statement}
 use Rattle.leastmask.proofs.print_case.Tie as tie

@@ -1,5 +1,5 @@
 -- `leastmask::print_domain` meets its contract: it prints where the mask holds the domain.
-use mathlib.Core.Path.{_≡_, sym, _∙_}
+use mathlib.Core.Path.{sym, _∙_}
 use borrow.Author.Needs.{needs}
 use Rattle.leastmask.proofs.print_domain.Statement.{statement}
 use Rattle.leastmask.proofs.print_domain.Tie as tie

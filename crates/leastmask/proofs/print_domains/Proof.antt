@@ -1,6 +1,6 @@
 -- `leastmask::print_domains` meets its contract. The loop's invariant: the count is that of the domains below s. The measure is how many are left.
 use Prim.Native.Nat.{_+_, _-_, _≤_}
-use mathlib.Core.Path.{_≡_, refl, sym, ap, _∙_}
+use mathlib.Core.Path.{_≡_, refl, sym, _∙_}
 use borrow.Author.Needs.{needs}
 use native.Mathlib.Omega.{arith}
 use lib.Count.{onesIn}

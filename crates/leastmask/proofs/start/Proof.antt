@@ -1,5 +1,5 @@
 -- `leastmask::start` meets its contract: the load, and the three calls in a row.
-use mathlib.Core.Path.{_≡_, sym, _∙_}
+use mathlib.Core.Path.{sym, _∙_}
 use borrow.Author.Needs.{needs}
 use Rattle.leastmask.proofs.Starts.{not-loaded, not-switched, turned-on}
 use Rattle.leastmask.proofs.start.Statement.{statement}

@@ -1,6 +1,6 @@
 -- `leastmask::store_pairs` meets its contract. The loop's invariant: the first i pairs are stored, and the rest of the slice is as it was.
-use Prim.Native.Nat.{ℕ, _-_, _≤_, _/_}
-use mathlib.Core.Path.{_≡_, refl, sym, ap, _∙_}
+use Prim.Native.Nat.{_-_, _≤_, _/_}
+use mathlib.Core.Path.{_≡_, refl, ap, _∙_}
 use mathlib.Core.List.{_++_}
 use borrow.Author.Needs.{needs}
 use native.Mathlib.Omega.{arith}

@@ -1,7 +1,7 @@
 -- `masks::least_from`, which calls itself, meets its contract. The measure is the set of domains that are left, as a number: each call takes the last of them out.
 use Prim.Native.Nat.{ℕ, _<_}
-use mathlib.Core.Path.{_≡_, refl, sym, ap, subst, _∙_}
-use mathlib.Core.Bool.{Bool, true, false}
+use mathlib.Core.Path.{_≡_, sym, ap, subst, _∙_}
+use mathlib.Core.Bool.{false}
 use mathlib.Core.List.{List, _∷_}
 use mathlib.Core.Logic.{⊎-elim}
 use native.Mathlib.Omega.{arith}
@@ -18,7 +18,7 @@ use Rattle.masks.proofs.is_less.Reads as is-less
 use Rattle.masks.proofs.last_domain.Reads as last-domain
 use Rattle.rules.proofs.domains.with_bit.Reads as with-bit
 use Rattle.rules.proofs.domains.without_bit.Reads as without-bit
-use Rattle.rules.specs.Domains.{withBit, withoutBit}
+use Rattle.rules.specs.Domains.{withoutBit}
 use Rattle.machine.specs.Calls.{any}
 use Rattle.masks.specs.Least.{leastOf}
 use Rattle.masks.specs.Search.{isUnmet, lastDomain, leastFrom}

@@ -1,5 +1,5 @@
 -- `masks::least_mask` meets its contract: 1 and 33 come first, and else it is what `mask_for` gives for the machine's parts.
-use mathlib.Core.Path.{_≡_, sym, _∙_}
+use mathlib.Core.Path.{sym, _∙_}
 use borrow.Author.Needs.{needs}
 use borrow.Author.Tests.{not-true, not-false}
 use Rattle.masks.proofs.Numbers.{unsound-first, too-many, masked-for}

@@ -1,5 +1,4 @@
 -- `masks::pair_number` meets its contract: its two tests are those of `pairChecks`.
-use mathlib.Core.Path.{_≡_}
 use borrow.Author.Needs.{needs}
 use borrow.Author.Tests.{le-leb, lt-leb, lt-ltb, le-ltb}
 use native.Mathlib.Omega.{arith}
