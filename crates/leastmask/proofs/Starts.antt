@@ -1,21 +1,34 @@
 -- How a node starts on a program: by what the load answers, and then the switch. From the definition, and by the law of a turn's beginning.
-use Prim.Native.Nat.{ℕ, _<_, _≤_}
-use mathlib.Core.Path.{_≡_, ap, _∙_}
+use Prim.Native.Nat.{ℕ, _+_, _<_, _≤_}
+use mathlib.Core.Path.{_≡_, refl, ap, _∙_}
+use mathlib.Core.Bool.{true}
 use mathlib.Core.List.{List}
-use borrow.Author.Tests.{eq-eqb, ne-eqb}
+use borrow.Author.Tests.{eq-eqb, ne-eqb, le-ltb, lt-ltb}
 use native.Mathlib.Omega.{arith}
-use lib.ListN.{getD, length}
-use Rattle.machine.specs.Machine.{zero}
-use Rattle.machine.specs.Calls.{callOf, silent}
+use lib.Dec.{eqb, ltb}
+use lib.ListN.{length}
+use Rattle.machine.specs.Machine.{isSound, zero}
+use Rattle.machine.specs.Calls.{after, callOf, checksOf, effectOf, entered, silent}
+use Rattle.machine.specs.declared.record.Machine.{Machine}
 use Rattle.machine.specs.declared.record.Answered.{Answered}
 use Rattle.machine.specs.declared.record.Call.the-variants.{Enter, Switch, Return}
-use Rattle.machine.proofs.Answers.{switch-named}
-use Rattle.machine.proofs.Laws.{shape-kept}
+use Rattle.machine.proofs.Sound.{sound-facts, moved-sound}
 use Rattle.machine.proofs.Turn.{Turned, turned, turn-begins}
 use Rattle.image.specs.Description.{machineOf}
 use Rattle.image.specs.Load.{loadOf}
 use Rattle.image.proofs.Loaded.{load-silent, loaded, refused-zero}
 use Rattle.leastmask.specs.Asked.{startedOf}
+
+-- in a first interrupt the switch to a program that the table does not have is 16
+missing-program : (m : Machine) (program : ℕ) → isSound m ≡ true → m .depth ≡ 0 → m .programs ≤ program
+    → callOf (callOf m Enter .machine) (Switch program) .number ≡ 16
+unfolding callOf checksOf effectOf after entered
+missing-program m program sound depth past =
+    let s = sound-facts m sound in
+    let one = moved-sound m (entered m) (refl, refl, refl) sound (omega (arith, depth)) (s .current-below) refl (s .violation-fits) in
+    let low : ltb (m .depth) 8 ≡ true = lt-ltb (m .depth) 8 (omega (arith, depth)) in
+    let first : eqb (m .depth + 1) 1 ≡ true = eq-eqb (m .depth + 1) 1 (omega (arith, depth)) in
+    rw (sound, low, one, first, lt-ltb (m .current) (m .programs) (s .current-below), le-ltb program (m .programs) past)
 
 module _ (image : List ℕ) (program : ℕ) where
   -- the switch of the loaded machine's first interrupt
@@ -58,10 +71,9 @@ module _ (image : List ℕ) (program : ℕ) where
         let switch = ap (λ (r : Answered). callOf (r .machine) (Switch program)) (turn .entry) ∙ turn .switch in
         turned-on loads (ap (λ (r : Answered). r .number) switch) ∙ ap (λ (r : Answered). callOf (r .machine) Return) switch ∙ turn .return
 
-    -- RULES 12.7: a program that is not there gets the switch's number and the all-zero machine
-    pub start-missing : loadOf image .machine .programs ≤ program → (switch .number ≡ 0 → ⊥) × (startedOf image program ≡ silent (switch .number) zero)
-    unfolding callOf
+    -- RULES 12.7: a program that is not there gets the switch's 16 and the all-zero machine
+    pub start-missing : loadOf image .machine .programs ≤ program → startedOf image program ≡ silent 16 zero
     start-missing past =
-        let refused : switch .number ≡ 0 → ⊥ = λ done.
-        omega (arith, past, switch-named (callOf (loadOf image .machine) Enter .machine) program done, ap (λ (l : List ℕ). getD l 2 0) (shape-kept (loadOf image .machine) Enter)) in
-        (refused, not-switched loads refused)
+        let m = loaded image loads in
+        let sixteen = missing-program (loadOf image .machine) program (m .sound) (m .no-depth) past in
+        not-switched loads (λ done. omega (arith, sixteen, done)) ∙ ap (λ (number : ℕ). silent number zero) sixteen

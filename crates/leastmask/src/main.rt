@@ -1,5 +1,5 @@
 // Prints the least mask for subroutines of the programs of images (RULES 12.7). Standard input holds the cases one after another: the length of an image (2 bytes, high byte
-// first), the image, a program (2 bytes), a count of pairs (2 bytes), and the pairs, 4 bytes each: right, page. A case that the input cuts is left out. For each there is a
+// first), the image, a program (2 bytes), a count of pairs (2 bytes), and the pairs, 4 bytes each: right, page. It reads at most 65,536 bytes, and leaves out a case that these cut. For each there is a
 // line: which case it is, counted from 1, `start` and how the node started, `mask` and the number, the mask in hexadecimal, and its domains, or `-` where it has none.
 use image::bytes::word_at;
 use image::load;
@@ -102,9 +102,9 @@ fn print_domains(mask: u16) -> u32
     count
 }
 
-// Prints the line of a case, and hands back what was found.
-fn print_line(which: u64, start: u8, least: LeastMask) -> LeastMask
-    ensures { λ r. ⌜ r ≡ least ⌝ }
+// Prints the line of a case; answers how many domains the mask has.
+fn print_line(which: u64, start: u8, least: LeastMask) -> u32
+    ensures { λ r. ⌜ r ≡ domainCount (least .mask) ⌝ }
 {
     io::print_decimal(STDOUT_FILENO, which);
     io::write_all(STDOUT_FILENO, b" start ");
@@ -113,18 +113,18 @@ fn print_line(which: u64, start: u8, least: LeastMask) -> LeastMask
     io::print_decimal(STDOUT_FILENO, least.number as u64);
     io::write_all(STDOUT_FILENO, b" ");
     io::print_hex(STDOUT_FILENO, least.mask as u64, 4);
-    print_domains(least.mask);
-    least
+    print_domains(least.mask)
 }
 
-// Asks a case and prints its line.
+// Asks a case, prints its line, and hands back what was found.
 fn print_case(which: u64, image: &[u8], program: u16, bytes: &[u8]) -> LeastMask
     requires { ⌜ length (now bytes) ≤ 65536 ⌝ }
     ensures { λ r. ⌜ r ≡ leastMaskOf (startedOf (now (image .entry)) program .machine) (pairsOf (now (bytes .entry))) ⌝ }
 {
     let started = start(image, program);
     let least = ask(started.machine, bytes);
-    print_line(which, started.number, least)
+    print_line(which, started.number, least);
+    least
 }
 
 // Asks the cases one after another, and answers how many bytes there are.

@@ -1,13 +1,13 @@
 -- What is promised of the least mask: when each number comes, and of the mask that it is within the global context, allows every pair, and that no other mask that does
 -- comes before it; what its users do with it. From the candidates, which are all masks within the context that will do, and the order of masks.
 use Prim.Native.Nat.{ℕ, zero, suc, _<_, _≤_}
-use mathlib.Core.Path.{_≡_, refl, sym, ap, subst, _∙_}
+use mathlib.Core.Path.{_≡_, refl, sym, ap, _∙_}
 use mathlib.Core.Bool.{Bool, true, false, not, true≢false}
 use mathlib.Core.List.{List, [], _∷_, List·Memᴰ, List·Memᴰ·not-nil}
 use mathlib.Core.Logic.{_↔_, ⊎-elim}
-use borrow.Author.Tests.{ne-eqb, ltb-true, ltb-false, not-true}
+use borrow.Author.Tests.{eqb-true, eqb-false, ne-eqb, ltb-true, ltb-false, not-true}
 use native.Mathlib.Omega.{arith}
-use lib.Bits.{bitAnd, and-comm, and-self, and-le-l, and-zero-r}
+use lib.Bits.{bitAnd, and-comm, and-self, and-le-l}
 use lib.Count.{ones, onesIn}
 use lib.Dec.{eqb, ltb}
 use lib.ListN.{length, getD}
@@ -28,7 +28,7 @@ use Rattle.masks.specs.declared.LeastMask.{LeastMask}
 use Rattle.masks.proofs.Bad.{GoodBefore, PairsGive, no-right, no-page, all-good, pairs-exactly}
 use Rattle.masks.proofs.Numbers.{unsound-first, too-many, bad-given, none-given, mask-given}
 use Rattle.masks.proofs.Order.{Before, before-further, least-before, least-in, in-passing, passing-in, passing-none}
-use Rattle.masks.proofs.Pairs.{OnPage, Allows, denied-need, not-denied, pair-allowed, under-sound}
+use Rattle.masks.proofs.Pairs.{OnPage, Allows, pair-allowed, under-sound, zero-denies}
 use Rattle.masks.proofs.Within.{Within, empty-holds, within-before, within-shared, ones-counted, looked-within, looked-fits, looked-all}
 
 -- RULES 12.2: a mask allows every pair of a list
@@ -115,7 +115,7 @@ module _ (m : Machine) (pairs : List ℕ) where
       (looked-all context (bitAnd mask context) (omega (arith, small, and-le-l mask context)) (λ s held. both-held mask context s held .1))
       (will-do (bitAnd mask context) .1 (part-allows mask all))
 
-  -- what comes before a candidate holds no more domains, and of as many is no greater number
+  -- what comes before a mask holds no more domains, and of as many is no greater number
   counts : {one other : ℕ} → one < 65536 → other < 65536 → Before one other → (ones one ≤ ones other) × (ones other ≡ ones one → one ≤ other)
   counts {one} {other} small small′ =
       ⊎-elim (λ few. (omega (arith, few, ones-counted 16 one small, ones-counted 16 other small′), λ same. absurd (omega (arith, few, same, ones-counted 16 one small, ones-counted 16 other small′))))
@@ -226,27 +226,34 @@ module _ (m : Machine) (pairs : List ℕ) where
   unfolding leastMaskOf
   refused-mask-zero refused = rw (ne-eqb (leastMaskOf m pairs .number) 0 refused)
 
-  -- RULES 12.6: mask 0 is given for an empty list alone
-  pub zero-for-none : leastMaskOf m pairs .number ≡ 0 → leastMaskOf m pairs .mask ≡ 0 → length pairs ≡ 0
-  zero-for-none done empty = split (ltb 0 (length pairs)) refl
+  -- so where it is not 0, the number is 0
+  not-refused : (leastMaskOf m pairs .mask ≡ 0 → ⊥) → leastMaskOf m pairs .number ≡ 0
+  not-refused some = split (eqb (leastMaskOf m pairs .number) 0) refl
     where
-      split : (b : Bool) → ltb 0 (length pairs) ≡ b → length pairs ≡ 0
-      split true e =
-          let pair = getD pairs 0 0 in
-          let all = subst (λ (mask : ℕ). AllowsAll m mask pairs) empty (least-given done .allows) in
-          let free = pair-allowed m 0 pair .1 (all 0 (ltb-true 0 (length pairs) e)) in
-          let known = not-denied m 0 pair free in
-          absurd (true≢false (sym (denied-need m 0 pair (known .0) (known .1) (known .2) ∙ rw (and-zero-r context, and-zero-r (fieldOf m (rightOf pair) (pageIn pair)))) ∙ free))
-      split false e = let least = ltb-false 0 (length pairs) e in omega (arith, least)
+      split : (b : Bool) → eqb (leastMaskOf m pairs .number) 0 ≡ b → leastMaskOf m pairs .number ≡ 0
+      split true e = eqb-true _ 0 e
+      split false e = absurd (some (refused-mask-zero (eqb-false _ 0 e)))
+
+  -- RULES 12.6: beside 0 mask 0 is given for an empty list alone
+  pub zero-for-none : leastMaskOf m pairs .number ≡ 0 → leastMaskOf m pairs .mask ≡ 0 → length pairs ≡ 0
+  zero-for-none done empty = split (eqb (length pairs) 0) refl
+    where
+      split : (b : Bool) → eqb (length pairs) 0 ≡ b → length pairs ≡ 0
+      split true e = eqb-true _ 0 e
+      split false e =
+          let some = eqb-false (length pairs) 0 e in
+          let all : AllowsAll m 0 pairs = rw empty at (least-given done .allows) in
+          absurd (zero-denies m (getD pairs 0 0) (pair-allowed m 0 (getD pairs 0 0) .1 (all 0 (omega (arith, some)))))
 
   -- RULES 12.6: where the mask is not 0, the mask command takes it in user mode with the flag clear, whatever the mask before, and after it every access that the pairs
   -- ask for is answered 0
-  pub mask-serves : leastMaskOf m pairs .number ≡ 0 → (leastMaskOf m pairs .mask ≡ 0 → ⊥) → (before : ℕ)
+  pub mask-serves : (leastMaskOf m pairs .mask ≡ 0 → ⊥) → (before : ℕ)
       → let taken = callOf (underMask m before) (SetMask (leastMaskOf m pairs .mask)) in
       (taken .number ≡ 0)
       × ((i : ℕ) → i < length pairs → (width : Width) (address : ℕ) → OnPage m width address (pageIn (getD pairs i 0))
       → callOf (taken .machine) (Access width (rightOf (getD pairs i 0)) address) .number ≡ 0)
-  mask-serves done some before =
+  mask-serves some before =
+      let done = not-refused some in
       let it = least-given done in
       let whole = within-shared (leastMaskOf m pairs .mask) context (it .fits) (it .within) in
       let taken = mask-taken m (sound-given done) before (leastMaskOf m pairs .mask) (ne-eqb (bitAnd (leastMaskOf m pairs .mask) context) 0 (rw whole some)) in
@@ -265,6 +272,13 @@ empty-list m sound =
       fewest = λ other small allowed. omega (arith, ones-counted 0 0 (omega arith));
       smallest = λ other small allowed same. omega arith;
     }))
+
+-- RULES 12.6: which the mask command refuses with 19
+pub empty-refused : (m : Machine) → isSound m ≡ true → (before : ℕ)
+    → callOf (underMask m before) (SetMask (leastMaskOf m [] .mask)) ≡ silent 19 (underMask m before)
+unfolding callOf checksOf after
+empty-refused m sound before =
+    ap (λ (given : LeastMask). callOf (underMask m before) (SetMask (given .mask))) (empty-list m sound) ∙ rw (under-sound m sound before)
 
 -- RULES 12.2: the live mask, mode and flag play no part but in soundness
 pub registers-aside : (m : Machine) (pairs : List ℕ) (mask : ℕ) (mode : Mode) (pending : Bool)

@@ -2,7 +2,7 @@
 -- cases over the two comparisons, and by induction on the list.
 use Prim.Native.Nat.{ℕ, _<_, _≤_}
 use mathlib.Core.Path.{_≡_, refl, sym, subst, _∙_}
-use mathlib.Core.Bool.{Bool, true, false, _&&_, _||_, true≢false}
+use mathlib.Core.Bool.{Bool, true, false, _&&_, _||_, and-false, true≢false}
 use mathlib.Core.List.{List, [], _∷_, _++_, List·Memᴰ, List·Memᴰ·head, List·Memᴰ·tail, List·Memᴰ·cases-cons, List·Memᴰ·not-nil}
 use mathlib.Core.Logic.{_⊎_, inl, inr, ⊎-elim}
 use borrow.Author.Tests.{ltb-true, ltb-false, le-ltb, eqb-true, eqb-false, ne-eqb}
@@ -15,7 +15,7 @@ use Rattle.masks.specs.Least.{domainCount, isLess, lesser, leastOf, pass
 abbrev pub Before : (one other : ℕ) → Type 0
 Before one other = (domainCount one < domainCount other) ⊎ ((domainCount one ≡ domainCount other) × (one ≤ other))
 
-pub before-itself : (mask : ℕ) → Before mask mask
+before-itself : (mask : ℕ) → Before mask mask
 before-itself mask = inr (refl, omega arith)
 
 pub before-further : {a b c : ℕ} → Before a b → Before b c → Before a c
@@ -46,14 +46,10 @@ module _ (one other : ℕ) where
   less-not =
       ⊎-elim (λ few. rw (le-ltb (domainCount one) (domainCount other) (omega arith), ne-eqb (domainCount one) (domainCount other) (omega arith)))
       (λ same. rw (le-ltb (domainCount one) (domainCount other) (omega arith), le-ltb one other (same .1))
-      (and-none (eqb (domainCount one) (domainCount other))))
-    where
-      and-none : (b : Bool) → b && false ≡ false
-      and-none true = refl
-      and-none false = refl
+      (and-false (eqb (domainCount one) (domainCount other))))
 
   -- a mask that is less comes before the other
-  pub less-before : isLess one other ≡ true → Before one other
+  less-before : isLess one other ≡ true → Before one other
   less-before = split (ltb (domainCount one) (domainCount other)) refl (eqb (domainCount one) (domainCount other)) refl (ltb one other) refl
     where
       split : (few : Bool) → ltb (domainCount one) (domainCount other) ≡ few → (same : Bool) → eqb (domainCount one) (domainCount other) ≡ same

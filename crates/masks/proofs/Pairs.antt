@@ -2,13 +2,13 @@
 -- context share a domain. So what a pair needs is a domain that its field and the global context share. From the access's own conditions, over the bytes touched.
 use Prim.Native.Nat.{ℕ, suc, _*_, _/_, _^_, _<_, _≤_}
 use mathlib.Core.Path.{_≡_, refl, sym, ap, _∙_}
-use mathlib.Core.Bool.{Bool, true, false, not}
+use mathlib.Core.Bool.{Bool, true, false, not, true≢false}
 use mathlib.Core.List.{List, [], _∷_, map}
 use mathlib.Core.Logic.{_↔_}
 use borrow.Author.Tests.{eqb-true, eq-eqb, le-leb, lt-leb, leb-true, ltb-true, not-false}
 use native.Mathlib.Nat.{div-lt-iff-lt-mul, mul-div-cancel, suc-mul}
 use native.Mathlib.Omega.{arith}
-use lib.Bits.{bitAnd}
+use lib.Bits.{bitAnd, and-zero-r}
 use lib.Dec.{eqb, ltb}
 use lib.Pow.{pow-pos}
 use Rattle.rules.specs.Refusals.{_⇒_, first, pick}
@@ -36,11 +36,14 @@ abbrev pub Allows : Machine → (mask pair : ℕ) → Type 0
 Allows m mask pair =
     (width : Width) (address : ℕ) → OnPage m width address (pageIn pair) → callOf (underMask m mask) (Access width (rightOf pair) address) .number ≡ 0
 
--- the first byte of a page is on it
+-- every byte is on its own page, and the first byte of a page is on it
+pub byte-on : (m : Machine) (address : ℕ) → OnPage m One address (address / 2 ^ m .exponent)
+byte-on m address byte touches =
+    let here : byte ≡ address = omega (arith, touches .0, touches .1) in
+    rw here
+
 first-on : (m : Machine) (page : ℕ) → OnPage m One (page * 2 ^ m .exponent) page
-first-on m page byte touches =
-    let here : byte ≡ page * 2 ^ m .exponent = omega (arith, touches .0, touches .1) in
-    rw here (mul-div-cancel page (pow-pos (m .exponent)))
+first-on m page = rw (mul-div-cancel page (pow-pos (m .exponent))) at (byte-on m (page * 2 ^ m .exponent))
 
 -- a machine that is sound is so under every mask
 pub under-sound : (m : Machine) → isSound m ≡ true → (mask : ℕ) → isSound (underMask m mask) ≡ true
@@ -77,7 +80,7 @@ module _ (m : Machine) (mask : ℕ) where
 
   module _ (pair : ℕ) where
     -- so the mask denies the pair where they share none
-    pub denied-need : isSound (underMask m mask) ≡ true → rightOf pair ≤ 1 → pageIn pair < m .pages
+    denied-need : isSound (underMask m mask) ≡ true → rightOf pair ≤ 1 → pageIn pair < m .pages
         → denies m mask pair ≡ sharesNone (rightOf pair) (pageIn pair)
     denied-need sound known counted =
         rw (page-judged sound One (rightOf pair) (pageIn pair) (pageIn pair * 2 ^ m .exponent) known counted (first-on m (pageIn pair)))
@@ -88,7 +91,7 @@ module _ (m : Machine) (mask : ℕ) where
         split false = refl
 
     -- what is known of a pair that it does not deny: the first byte of the page is on a page that is there
-    pub not-denied : denies m mask pair ≡ false → (isSound (underMask m mask) ≡ true) × (rightOf pair ≤ 1) × (pageIn pair < m .pages)
+    not-denied : denies m mask pair ≡ false → (isSound (underMask m mask) ≡ true) × (rightOf pair ≤ 1) × (pageIn pair < m .pages)
     unfolding callOf
     not-denied given =
         let first = pageIn pair * 2 ^ m .exponent in
@@ -110,8 +113,16 @@ module _ (m : Machine) (mask : ℕ) where
       λ all. ap not (eq-eqb _ 0 (all One (pageIn pair * 2 ^ m .exponent) (first-on m (pageIn pair)))),
     )
 
+-- mask 0 denies every pair
+pub zero-denies : (m : Machine) (pair : ℕ) → denies m 0 pair ≡ false → ⊥
+zero-denies m pair given =
+    let known = not-denied m 0 pair given in
+    let field = fieldOf m (rightOf pair) (pageIn pair) in
+    let none : eqb (bitAnd field (bitAnd (m .registers .context) 0)) 0 ≡ true = rw (and-zero-r (m .registers .context), and-zero-r field) in
+    true≢false (sym none ∙ sym (denied-need m 0 pair (known .0) (known .1) (known .2)) ∙ given)
+
 -- the pairs of a list of which none is bad
-pub good-pair : (pages pair : ℕ) (pairs : List ℕ) → first (pairChecks pages (pair ∷ pairs)) ≡ 0
+good-pair : (pages pair : ℕ) (pairs : List ℕ) → first (pairChecks pages (pair ∷ pairs)) ≡ 0
     → (rightOf pair ≤ 1) × (pageIn pair < pages) × (first (pairChecks pages pairs) ≡ 0)
 unfolding pairChecks
 good-pair pages pair pairs none = split (isRight (rightOf pair)) refl (ltb (pageIn pair) pages) refl none

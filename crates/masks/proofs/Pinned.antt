@@ -126,7 +126,7 @@ pub masks-given :
 unfolding leastMaskOf leastChecks pairChecks passing masksFrom onesIn callOf checksOf accessChecks isSound domainBit
 masks-given = refl
 
--- RULES 12.3: one domain before two of smaller number; of two domains each the smallest number, and it is not the first need's smallest
+-- RULES 12.3: one domain before two of smaller number; of two domains each the smallest number
 pub ties-given :
     leastMaskOf (node (5 ∷ 6 ∷ []) (live 7 0 User false)) (0 ∷ 65536 ∷ [])
     ∷ leastMaskOf (node (5 ∷ 6 ∷ []) (live 3 0 User false)) (0 ∷ 65536 ∷ [])

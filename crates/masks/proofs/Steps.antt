@@ -26,7 +26,7 @@ use Rattle.masks.proofs.Within.{Within, either-left, either-right, empt
 -- ---- the domain of greatest number
 
 -- it is a domain that the set holds, and the set holds none of greater number
-pub last-held : (set : ℕ) → (set ≡ 0 → ⊥) → set < 65536
+last-held : (set : ℕ) → (set ≡ 0 → ⊥) → set < 65536
     → (lastDomain set < 16) × (holds set (lastDomain set) ≡ true) × ((s : ℕ) → lastDomain set < s → holds set s ≡ false)
 last-held set some small =
     let top = leading-top 16 set (omega (arith, some)) small in
@@ -71,9 +71,9 @@ masks-next : (n a mask : ℕ) → holds a n ≡ true → masksFrom a mask (suc n
 unfolding masksFrom
 masks-next n a mask held = rw held
 
-pub none-left : (mask : ℕ) → masksFrom 0 mask 16 ≡ mask ∷ []
+pub nothing-left : (mask : ℕ) → masksFrom 0 mask 16 ≡ mask ∷ []
 unfolding masksFrom
-none-left mask = masks-past 0 16 0 mask (λ s past. empty-holds s)
+nothing-left mask = masks-past 0 16 0 mask (λ s past. empty-holds s)
 
 module _ (rest : ℕ) (some : rest ≡ 0 → ⊥) (small : rest < 65536) where
   abbrev last : ℕ
@@ -159,7 +159,7 @@ unmet-within one other small within need unmet = split (isUnmet one need) refl
         let met = none-shared need other unmet (shared .0) in
         absurd (true≢false (sym (rw (both .0) (within (shared .0) (both .1))) ∙ met))
 
--- so what meets every need is met by more
+-- so where a set meets every need, each set that has its domains does
 pub met-by-more : (needs : List ℕ) (one other : ℕ) → one < 65536 → Within one other → any (isUnmet one) needs ≡ false → any (isUnmet other) needs ≡ false
 met-by-more needs one other small within met = split (any (isUnmet other) needs) refl
   where
@@ -185,10 +185,10 @@ module _ (needs : List ℕ) (rest mask : ℕ) (small : mask < 65536) where
 -- with nothing left the mask itself is the only one
 pub last-one : (needs : List ℕ) (mask best : ℕ) → isLess mask best ≡ true → any (isUnmet (bitOr mask 0)) needs ≡ false → leastFrom needs 0 mask best ≡ mask
 unfolding passing
-last-one needs mask best less met = rw (none-left mask, subst (λ (set : ℕ). any (isUnmet set) needs ≡ false) (or-zero-r mask) met, less)
+last-one needs mask best less met = rw (nothing-left mask, subst (λ (set : ℕ). any (isUnmet set) needs ≡ false) (or-zero-r mask) met, less)
 
 -- where the whole context meets every need, it is one of the masks within it that do
-pub context-meets : (needs : List ℕ) (context : ℕ) → context < 65536 → any (isUnmet context) needs ≡ false
+context-meets : (needs : List ℕ) (context : ℕ) → context < 65536 → any (isUnmet context) needs ≡ false
     → List·Memᴰ context (passing (meetsAll needs) (masksWithin context))
 context-meets needs context small met =
     in-passing (meetsAll needs) (masksWithin context) context (looked-all context context small (λ s h. h)) (ap not met)

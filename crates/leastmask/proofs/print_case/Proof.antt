@@ -8,7 +8,7 @@ returns : tie.Need-returns
 returns c =
     let starting : tie.After-start = (search) in
     let asking : tie.After-ask = (search) in
-    c .print-line .ensures ∙ asking .ask .ensures ∙ rw (starting .start .ensures)
+    asking .ask .ensures ∙ rw (starting .start .ensures)
 
 pub print-case-spec : {M : Type 1} → statement M
 print-case-spec = tie.close (tie.spec (λ c κs. search needs) (λ c κs. search needs) (λ c κs. search needs) returns)
