@@ -6,11 +6,15 @@ use mathlib.Core.Bool.{false}
 use mathlib.Core.List.{List, [], _∷_, map}
 use native.Mathlib.Nat.{zero-add}
 use lib.Count.{onesIn}
+use lib.Dec.{eqb}
 use lib.ListN.{drop, getD, length}
 use Rattle.rules.specs.Domains.{domainBit}
+use Rattle.rules.specs.Refusals.{pick}
 use Rattle.rules.specs.declared.registers.Mode.the-variants.{User}
 use Rattle.machine.specs.Machine.{isSound, zero}
 use Rattle.machine.specs.Calls.{callOf, checksOf, effectOf, accessChecks, after, entered, returned, switched, silent}
+use Rattle.machine.specs.declared.record.Call.the-variants.{Enter, Return, Switch}
+use Rattle.machine.specs.declared.record.Report.the-variants.{Nothing}
 use Rattle.machine.proofs.Written.{live}
 use Rattle.image.specs.Description.{machineOf}
 use Rattle.image.specs.Load.{loadOf, loadChecks, lengthTests, kindTests, shapeEntryTests, shapeTests, bodyTests, describe}
@@ -18,6 +22,16 @@ use Rattle.image.specs.Sample.{sampleBytes}
 use Rattle.image.proofs.Entries.{length-entries, entry-at}
 use Rattle.masks.specs.Least.{masksFrom, passing, pairChecks, leastChecks, leastMaskOf}
 use Rattle.leastmask.specs.Asked.{startedOf, pairAt, pairsOf}
+
+-- RULES 12.7: how a node starts, for every image and program
+pub started-spelled : (image : List ℕ) (program : ℕ)
+    → let entry = callOf (loadOf image .machine) Enter in
+    let switch = callOf (entry .machine) (Switch program) in
+    startedOf image program
+    ≡ pick (eqb (loadOf image .number) 0)
+    (pick (eqb (switch .number) 0) (callOf (switch .machine) Return) (record { number = switch .number; machine = zero; report = Nothing })) (loadOf image)
+unfolding startedOf
+started-spelled image program = refl
 
 -- RULES 12.7: how the sample starts: on its two programs, on one that is not there, and without its first byte
 pub sample-starts :

@@ -12,12 +12,12 @@ use Rattle.rules.specs.Refusals.{_⇒_, first, pick}
 use Rattle.rules.specs.declared.registers.Mode.the-variants.{User, Privileged}
 use Rattle.rules.specs.declared.registers.Registers.{Registers}
 use Rattle.machine.specs.Machine.{isSound}
-use Rattle.machine.specs.Calls.{accessChecks, callOf, checksOf}
+use Rattle.machine.specs.Calls.{accessChecks, any, callOf, checksOf}
 use Rattle.machine.specs.declared.record.Machine.{Machine}
 use Rattle.machine.specs.declared.record.Width.the-variants.{One}
 use Rattle.machine.specs.declared.record.Call.the-variants.{Access}
 use Rattle.machine.proofs.Written.{holding, live, stored, whole}
-use Rattle.masks.specs.Least.{rightOf, pageIn, underMask, denies, masksFrom, masksWithin, passing, candidates, domainCount, isLess, leastOf, pairChecks, leastChecks, leastMaskOf}
+use Rattle.masks.specs.Least.{rightOf, pageIn, underMask, denies, willDo, masksFrom, masksWithin, passing, candidates, domainCount, isLess, leastOf, pairChecks, leastChecks, leastMaskOf}
 use Rattle.masks.specs.declared.LeastMask.{LeastMask}
 
 -- RULES 12.1: each pair of a right and a page has one number, which says both
@@ -40,6 +40,10 @@ under-spelled m mask = refl
 pub denies-spelled : (m : Machine) (mask pair : ℕ)
     → denies m mask pair ≡ not (eqb (callOf (underMask m mask) (Access One (pair / 65536) (pair % 65536 * 2 ^ m .exponent)) .number) 0)
 denies-spelled m mask pair = refl
+
+-- RULES 12.2: when a mask will do, for every machine and list
+pub will-do-spelled : (m : Machine) (pairs : List ℕ) (mask : ℕ) → willDo m pairs mask ≡ not (any (denies m mask) pairs)
+will-do-spelled m pairs mask = refl
 
 -- RULES 12.3: the masks within a context, for every context and mask, and some lists of them
 pub masks-spelled : (context mask s : ℕ)
@@ -121,18 +125,24 @@ candidates-listed = (refl, refl, refl)
 
 -- RULES 12.3: what is given for READ and WRITE of two pages: READ of page 0 has domain 0, WRITE of it domain 1, READ of page 1 both, WRITE of it none
 pub masks-given :
-    map (leastMaskOf (node (1 ∷ 2 ∷ 3 ∷ 0 ∷ []) (live 3 0 User false))) ([] ∷ (0 ∷ []) ∷ (65536 ∷ []) ∷ (1 ∷ []) ∷ (65537 ∷ []) ∷ (1 ∷ 65536 ∷ 0 ∷ []) ∷ [])
-    ≡ gives 0 0 ∷ gives 0 1 ∷ gives 0 2 ∷ gives 0 1 ∷ gives 34 0 ∷ gives 0 3 ∷ []
+    map (leastMaskOf (node (1 ∷ 2 ∷ []) (live 3 0 User false))) ([] ∷ (0 ∷ []) ∷ (65536 ∷ []) ∷ []) ≡ gives 0 0 ∷ gives 0 1 ∷ gives 0 2 ∷ []
 unfolding leastMaskOf leastChecks pairChecks passing masksFrom onesIn callOf checksOf accessChecks isSound domainBit
 masks-given = refl
 
--- RULES 12.3: one domain before two of smaller number; of two domains each the smallest number
-pub ties-given :
-    leastMaskOf (node (5 ∷ 6 ∷ []) (live 7 0 User false)) (0 ∷ 65536 ∷ [])
-    ∷ leastMaskOf (node (5 ∷ 6 ∷ []) (live 3 0 User false)) (0 ∷ 65536 ∷ [])
-    ∷ leastMaskOf (node (6 ∷ 9 ∷ []) (live 15 0 User false)) (0 ∷ 65536 ∷ [])
-    ∷ []
-    ≡ gives 0 4 ∷ gives 0 3 ∷ gives 0 3 ∷ []
+pub needs-joined :
+    map (leastMaskOf (node (1 ∷ 2 ∷ 3 ∷ 0 ∷ []) (live 3 0 User false))) ((1 ∷ []) ∷ (65537 ∷ []) ∷ (1 ∷ 65536 ∷ 0 ∷ []) ∷ [])
+    ≡ gives 0 1 ∷ gives 34 0 ∷ gives 0 3 ∷ []
+unfolding leastMaskOf leastChecks pairChecks passing masksFrom onesIn callOf checksOf accessChecks isSound domainBit
+needs-joined = refl
+
+-- RULES 12.3: one domain before two of smaller number, where the context has it
+pub fewest-given :
+    map (λ (context : ℕ). leastMaskOf (node (5 ∷ 6 ∷ []) (live context 0 User false)) (0 ∷ 65536 ∷ [])) (7 ∷ 3 ∷ []) ≡ gives 0 4 ∷ gives 0 3 ∷ []
+unfolding leastMaskOf leastChecks pairChecks passing masksFrom onesIn callOf checksOf accessChecks isSound domainBit
+fewest-given = refl
+
+-- RULES 12.3: of two masks of two domains each the smaller number
+pub ties-given : leastMaskOf (node (3 ∷ 4 ∷ []) (live 7 0 User false)) (0 ∷ 65536 ∷ []) ≡ gives 0 5
 unfolding leastMaskOf leastChecks pairChecks passing masksFrom onesIn callOf checksOf accessChecks isSound domainBit
 ties-given = refl
 
@@ -152,12 +162,17 @@ pub long-lists :
 unfolding leastMaskOf leastChecks pairChecks passing masksFrom callOf checksOf accessChecks isSound domainBit
 long-lists = refl
 
--- RULES 12.2: the live mask, mode and flag play no part, but that a machine which is not sound is refused before all else
+-- RULES 12.2: the live mask, mode and flag play no part
 pub registers-asked :
     map (λ (registers : Registers). leastMaskOf (node (2 ∷ 0 ∷ []) registers) (0 ∷ []))
-    (live 3 0 User false ∷ live 3 1 User false ∷ live 3 65535 Privileged false ∷ live 3 1 User true ∷ live 3 3 Privileged true ∷ [])
-    ∷ map (leastMaskOf (node [] (live 3 3 Privileged true))) ([] ∷ (2 ∷ []) ∷ replicate 65 131074 ∷ [])
-    ∷ []
-    ≡ (gives 0 2 ∷ gives 0 2 ∷ gives 0 2 ∷ gives 0 2 ∷ gives 1 0 ∷ []) ∷ (gives 1 0 ∷ gives 1 0 ∷ gives 1 0 ∷ []) ∷ []
+    (live 3 0 User false ∷ live 3 1 User false ∷ live 3 65535 Privileged false ∷ live 3 1 User true ∷ [])
+    ≡ gives 0 2 ∷ gives 0 2 ∷ gives 0 2 ∷ gives 0 2 ∷ []
 unfolding leastMaskOf leastChecks pairChecks passing masksFrom onesIn callOf checksOf accessChecks isSound domainBit
 registers-asked = refl
+
+-- RULES 12.4: but that a machine which is not sound is refused before all else
+pub unsound-refused :
+    map (leastMaskOf (node (2 ∷ 0 ∷ []) (live 3 3 Privileged true))) ([] ∷ (0 ∷ []) ∷ (2 ∷ []) ∷ replicate 65 131074 ∷ [])
+    ≡ gives 1 0 ∷ gives 1 0 ∷ gives 1 0 ∷ gives 1 0 ∷ []
+unfolding leastMaskOf leastChecks isSound
+unsound-refused = refl
