@@ -21,7 +21,7 @@ pub struct LeastMask {
     pub mask: u16,
 }
 
-// How many pairs a list may have (RULES 12.1).
+// How many pairs a list may have (RULES 12.4).
 pub const PAIRS: usize = 64;
 
 // A refusal (RULES 12.5).
@@ -93,7 +93,7 @@ fn store_needs(needs: &mut [u16], fields: &[u16], context: u16, pairs: &[u32])
     }
 }
 
-// A set of domains leaves some need unmet. Every need is looked at, so that the compiler asks eight at once (docs/PERFORMANCE.md).
+// A set of domains leaves some need unmet. Every need is looked at, so that the compiler asks many at once (docs/PERFORMANCE.md).
 fn any_unmet(needs: &[u16], set: u16) -> bool
     ensures { λ r. ⌜ r ≡ any (isUnmet set) (now (needs .entry)) ⌝ }
 {
