@@ -85,6 +85,14 @@ pub sound-number : (m : Machine) (call : Call) → isSound m ≡ true → isIn (
 unfolding callOf
 sound-number m call s = rw s (told m call .numbers .given s)
 
+-- RULES 9.2: no call on any machine, sound or not, is answered by 10
+pub ten-never : (m : Machine) (call : Call) → callOf m call .number ≡ 10 → ⊥
+ten-never m call ten = split (isSound m) refl
+  where
+    split : (sound : Bool) → isSound m ≡ sound → ⊥
+    split true s = true≢false (sym (sound-number m call s) ∙ rw ten)
+    split false s = true≢false (sym (one-exactly m call ∙ rw s) ∙ rw ten)
+
 -- RULES 2.5: a refusal changes nothing, but that 9 sets the flag and the last violation
 pub refusal-unchanged : (m : Machine) (call : Call) → (callOf m call .number ≡ 0 → ⊥)
     → callOf m call .machine

@@ -13,6 +13,7 @@ pub mod Cases
 pub mod View
 pub mod Named
 pub mod Turn
+pub mod Switches
 pub mod Lengths
 pub mod MaskCommand
 pub mod Pinned

@@ -1,0 +1,53 @@
+-- When a switch gives each of its numbers: by cases over its tests, in their order.
+use Prim.Native.Nat.{ℕ, _≤_, _<_}
+use mathlib.Core.Path.{_≡_, refl, sym, subst, _∙_}
+use mathlib.Core.Bool.{Bool, true, false}
+use mathlib.Core.Logic.{_↔_}
+use borrow.Author.Tests.{eqb-true, eqb-false, ltb-true, ltb-false, lt-ltb, le-ltb, ne-eqb}
+use lib.Dec.{eqb, ltb}
+use Rattle.rules.specs.declared.registers.Mode.{Mode}
+use Rattle.rules.specs.declared.registers.Mode.the-variants.{User, Privileged}
+use Rattle.machine.specs.Machine.{isSound}
+use Rattle.machine.specs.Calls.{callOf, numberOf, checksOf}
+use Rattle.machine.specs.declared.record.Machine.{Machine}
+use Rattle.machine.specs.declared.record.Call.the-variants.{Switch}
+use Rattle.machine.proofs.Sound.{sound-facts}
+
+-- RULES 3.14, 3.15: where each number of a switch is due
+pub data SwitchGives (m : Machine) (program : ℕ) : ℕ → Type 0 where
+  unsound : isSound m ≡ false → SwitchGives m program 1
+  in-user-mode : isSound m ≡ true → m .registers .mode ≡ User → SwitchGives m program 7
+  other-depth : isSound m ≡ true → m .registers .mode ≡ Privileged → (m .depth ≡ 1 → ⊥) → SwitchGives m program 15
+  no-program : isSound m ≡ true → m .registers .mode ≡ Privileged → m .depth ≡ 1 → m .programs ≤ program → SwitchGives m program 16
+  done : isSound m ≡ true → m .registers .mode ≡ Privileged → m .depth ≡ 1 → program < m .programs → SwitchGives m program 0
+
+module _ (m : Machine) (program : ℕ) where
+  has-entry : isSound m ≡ true → ltb (m .current) (m .programs) ≡ true
+  has-entry sound = lt-ltb (m .current) (m .programs) (sound-facts m sound .current-below)
+
+  number-given : {n : ℕ} → SwitchGives m program n → numberOf m (Switch program) ≡ n
+  unfolding checksOf
+  number-given (unsound s) = rw s
+  number-given (in-user-mode s user) = rw (s, user)
+  number-given (other-depth s kernel other) = rw (s, kernel, has-entry s, ne-eqb (m .depth) 1 other)
+  number-given (no-program s kernel one past) = rw (s, kernel, has-entry s, one, le-ltb program (m .programs) past)
+  number-given (done s kernel one below) = rw (s, kernel, has-entry s, one, lt-ltb program (m .programs) below)
+
+  some-number-given : (n : ℕ) × SwitchGives m program n
+  some-number-given =
+      split (isSound m) refl (m .registers .mode) refl (eqb (m .depth) 1) refl (ltb program (m .programs)) refl
+    where
+      split : (sound : Bool) → isSound m ≡ sound → (mode : Mode) → m .registers .mode ≡ mode → (one : Bool) → eqb (m .depth) 1 ≡ one
+          → (there : Bool) → ltb program (m .programs) ≡ there → (n : ℕ) × SwitchGives m program n
+      split false s mode k one d there t = (1, unsound s)
+      split true s User k one d there t = (7, in-user-mode s k)
+      split true s Privileged k false d there t = (15, other-depth s k (eqb-false (m .depth) 1 d))
+      split true s Privileged k true d false t = (16, no-program s k (eqb-true (m .depth) 1 d) (ltb-false program (m .programs) t))
+      split true s Privileged k true d true t = (0, done s k (eqb-true (m .depth) 1 d) (ltb-true program (m .programs) t))
+
+  -- RULES 3.14, 3.15: each number of a switch exactly where it is due
+  pub switch-number-exactly : (n : ℕ) → (callOf m (Switch program) .number ≡ n) ↔ SwitchGives m program n
+  unfolding callOf
+  switch-number-exactly n =
+      let one = some-number-given in
+      ((λ e. subst (SwitchGives m program) (sym (number-given (one .1)) ∙ e) (one .1)), number-given)
