@@ -38,11 +38,11 @@
  *
  * THE ANSWERS are bytes, first the load's, then each call's in turn. They are
  * the BENCH_ANSWER_.. constants below: a call has one of 0 to 19, and the load
- * has 0 or one of 20 to 25. 1 and 10 do not occur in a run: a loaded machine is
- * sound, its current program has an entry, and every call leaves it so. 26 and
- * 27 are given by the writer of images alone, 30 to 32 by the planner of
- * contexts, and 33 and 34 by the least mask; a run calls none of them
- * (docs/RULES.md, 5.15, 11.4, 12.4).
+ * has 0 or one of 20 to 25. 1 does not occur in a run: a loaded machine is
+ * sound, and every call leaves it so. 10 is given by nothing, and is not used
+ * again. 26 and 27 are given by the writer of images alone, 30 to 32 by the
+ * planner of contexts, and 33 and 34 by the least mask; a run calls none of
+ * them (docs/RULES.md, 5.15, 9.2, 11.4, 12.4).
  *
  * HOW MANY ANSWERS an input of n bytes has:
  *
@@ -95,8 +95,11 @@
  *
  * From 3.0 on a mask command whose mask shares no domain with the live global
  * context is refused, with 19; before, it was accepted.
+ *
+ * From 4.0 on 10 has no constant: BENCH_ANSWER_NO_TABLE_ENTRY is gone. No run
+ * ever gave it, so that a program that leaves it out gets the same answers.
  */
-#define BENCH_VERSION_MAJOR 3
+#define BENCH_VERSION_MAJOR 4
 #define BENCH_VERSION_MINOR 0
 
 /* The longest input that is taken, in bytes. */
@@ -201,8 +204,6 @@ enum {
        domain; an interrupt is now pending, and the machine keeps program,
        right and address, of two bytes the first one's, as the last violation */
     BENCH_ANSWER_VIOLATION = 9,
-    /* the table has no entry for the current program; not in a run */
-    BENCH_ANSWER_NO_TABLE_ENTRY = 10,
     /* the field has no prevailing domain, or the local context lacks it */
     BENCH_ANSWER_NOT_PREVAILING = 11,
     /* the domain is not of lower level (a greater number) than the

@@ -40,7 +40,6 @@ enum {
     IN_USER_MODE = 7,
     IS_PENDING = 8,
     VIOLATION = 9,
-    NO_ENTRY_IN_TABLE = 10,
     NOT_PREVAILING = 11,
     NOT_BELOW_PREVAILING = 12,
     STACK_FULL = 13,
@@ -262,9 +261,6 @@ static uint8_t machine_switch(struct machine *m, uint16_t program)
         return NOT_SOUND;
     if (!m->privileged)
         return IN_USER_MODE;
-    /* A sound machine never meets this; the rules have it all the same. */
-    if (m->current >= m->program_count)
-        return NO_ENTRY_IN_TABLE;
     if (m->depth != 1)
         return DEPTH_NOT_ONE;
     if (program >= m->program_count)

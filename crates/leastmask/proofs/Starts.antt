@@ -28,7 +28,7 @@ missing-program m program sound depth past =
     let one = moved-sound m (entered m) (refl, refl, refl) sound (omega (arith, depth)) (s .current-below) refl (s .violation-fits) in
     let low : ltb (m .depth) 8 ≡ true = lt-ltb (m .depth) 8 (omega (arith, depth)) in
     let first : eqb (m .depth + 1) 1 ≡ true = eq-eqb (m .depth + 1) 1 (omega (arith, depth)) in
-    rw (sound, low, one, first, lt-ltb (m .current) (m .programs) (s .current-below), le-ltb program (m .programs) past)
+    rw (sound, low, one, first, le-ltb program (m .programs) past)
 
 module _ (image : List ℕ) (program : ℕ) where
   -- the switch of the loaded machine's first interrupt

@@ -278,11 +278,11 @@ entry-below m h = ltb-true (m .depth) 8 (not-false _ (accepted-unmet m Enter 0 r
 module _ (m : Machine) (program : ℕ) (h : numberOf m (Switch program) ≡ 0) where
   pub switch-named : program < m .programs
   unfolding checksOf
-  switch-named = ltb-true program (m .programs) (not-false _ (accepted-unmet m (Switch program) 3 refl h))
+  switch-named = ltb-true program (m .programs) (not-false _ (accepted-unmet m (Switch program) 2 refl h))
 
   pub switch-depth : m .depth ≡ 1
   unfolding checksOf
-  switch-depth = eqb-true (m .depth) 1 (not-false _ (accepted-unmet m (Switch program) 2 refl h))
+  switch-depth = eqb-true (m .depth) 1 (not-false _ (accepted-unmet m (Switch program) 1 refl h))
 
 -- the places that accepted calls of a sound machine reach
 pub return-within : (m : Machine) → numberOf m Return ≡ 0 → m .depth - 1 < 8

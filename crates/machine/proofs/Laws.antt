@@ -12,7 +12,7 @@ use lib.ListN.{getD}
 use Rattle.rules.specs.Registers.{localContext, withPending}
 use Rattle.rules.specs.Refusals.{Check, _⇒_, first, pick}
 use Rattle.machine.specs.Machine.{isRight, isSound, memorySize, fieldOf, violationFits, noProgram, withRegisters, withLast}
-use Rattle.machine.specs.Calls.{callOf, answerBy, silent, checksOf, accessChecks, changeChecks, effectOf, entered, returned, switched, lastAfterViolation, handedOut, reportOf, inPrivilegedMode, inUserMode, isDenied, isOutsideMemory, numberOf, touched, any, after, violated}
+use Rattle.machine.specs.Calls.{callOf, answerBy, silent, uncheckedOf, checksOf, accessChecks, changeChecks, effectOf, entered, returned, switched, lastAfterViolation, handedOut, reportOf, inPrivilegedMode, inUserMode, isDenied, isOutsideMemory, numberOf, touched, any, after, violated}
 use Rattle.machine.specs.Listed.{isIn, listed, ownNumbers, soundNumbers}
 use Rattle.machine.specs.declared.record.Machine.{Machine}
 use Rattle.machine.specs.declared.record.LastViolation.{LastViolation}
@@ -80,10 +80,15 @@ one-exactly m call = split (isSound m)
     split true = other-number (first (checksOf m call)) 1 (0 ∷ ownNumbers call) (own-number m call) (told m call .numbers .no-one)
     split false = refl
 
--- RULES 9.2: no call on a sound machine is answered by 1 or by 10
+-- RULES 2.8: the numbers of a call without the check for 1, on any machine
+pub unchecked-number : (m : Machine) (call : Call) → isIn (uncheckedOf m call .number) soundNumbers ≡ true
+unfolding uncheckedOf
+unchecked-number m call = first-within soundNumbers (checksOf m call) (told m call .numbers .given)
+
+-- RULES 2.4: no call on a sound machine is answered by 1
 pub sound-number : (m : Machine) (call : Call) → isSound m ≡ true → isIn (callOf m call .number) soundNumbers ≡ true
-unfolding callOf
-sound-number m call s = rw s (told m call .numbers .given s)
+unfolding callOf uncheckedOf
+sound-number m call s = rw s (unchecked-number m call)
 
 -- RULES 9.2: no call on any machine, sound or not, is answered by 10
 pub ten-never : (m : Machine) (call : Call) → callOf m call .number ≡ 10 → ⊥

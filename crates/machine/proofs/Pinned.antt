@@ -335,7 +335,8 @@ pub unchecked-order :
     ((Access One 2 0, 2) ∷ (Access One 0 768, 3) ∷ (Access One 0 0, 0) ∷ (Access One 1 0, 9) ∷ (SetMask 0, 19) ∷ (SetMask 0x00FE, 19) ∷ (SetMask 0x00FF, 0) ∷ (Enter, 13) ∷ (Return, 7) ∷ (Switch 0, 7) ∷ []))
     × (Answers uncheckedOf (loose 255 2 0 Privileged false) ((Enter, 13) ∷ (Return, 0) ∷ (Switch 0, 15) ∷ []))
     × (Answers uncheckedOf (loose 0 2 2 User false) ((Enter, 0) ∷ (Return, 7) ∷ (Switch 3, 7) ∷ []))
-    × (Answers uncheckedOf (loose 0 2 2 Privileged false) ((Return, 14) ∷ (Switch 3, 10) ∷ (Switch 0, 10) ∷ []))
+    × (Answers uncheckedOf (loose 0 2 2 Privileged false) ((Return, 14) ∷ (Switch 3, 15) ∷ (Switch 0, 15) ∷ []))
+    × (Answers uncheckedOf (loose 1 2 2 Privileged false) ((Switch 2, 16) ∷ (Switch 65535, 16) ∷ (Switch 0, 0) ∷ (Switch 1, 0) ∷ []))
     × (Answers uncheckedOf (loose 1 2 1 Privileged false) ((Switch 2, 16) ∷ (Switch 1, 0) ∷ []))
     × (Answers uncheckedOf (loose 0 2 1 Privileged false) ((Switch 2, 15) ∷ []))
     × (Answers uncheckedOf (loose 0 2 0 Privileged true)
@@ -343,7 +344,7 @@ pub unchecked-order :
     × (Answers uncheckedOf (loose 0 2 0 User true)
     ((Access One 1 0, 8) ∷ (Access One 0 0, 8) ∷ both 0 0 3 8 ((SetMask 0, 8) ∷ (StoreMode 2, 17) ∷ (StoreMode 1, 7) ∷ [])))
 unfolding uncheckedOf checksOf accessChecks changeChecks prevailing domainBit trailingZeros
-unchecked-order = (refl, refl, refl, refl, refl, refl, refl, refl)
+unchecked-order = (refl, refl, refl, refl, refl, refl, refl, refl, refl)
 
 -- past its places, also where it has none, the stack gives user, past its entries the table gives an empty one, and nothing is stored there
 pub unchecked-outcomes :
@@ -351,6 +352,7 @@ pub unchecked-outcomes :
     let bare = withStack 1 [] (loose 1 2 0 Privileged false) in
     let deep = loose 9 2 0 Privileged false in
     let many = loose 1 9 8 Privileged false in
+    let past = loose 1 2 2 Privileged false in
     Outcomes uncheckedOf
     ((empty, SetMask 7, 0, withRegisters (live 0x0101 7 User false) empty)
     ∷ (empty, Access One 1 0, 9, withLast (denied 0 1 0) (withRegisters (live 0x0101 0xFF01 User true) empty))
@@ -367,6 +369,13 @@ pub unchecked-outcomes :
       Switch 1,
       0,
       whole 3 8 (1 ∷ 2 ∷ []) (live 1 2 Privileged false) 1 [] 2 1 (stored 0x0101 0xFF01 User ∷ replicate 7 (stored 1 2 Privileged)),
+    )
+    ∷ (
+      past,
+      Switch 1,
+      0,
+      whole 3 8 (1 ∷ 2 ∷ []) (live 1 2 Privileged false) 1 (replicate 8 true) 2 1
+      (replicate 2 (stored 1 2 Privileged) ++ stored 0x0101 0xFF01 Privileged ∷ replicate 5 (stored 1 2 Privileged)),
     )
     ∷ (many, StoreContext 5, 0, withRegisters (live 5 0xFF01 Privileged false) many)
     ∷ [])
@@ -459,7 +468,7 @@ pub numbers-listed : (right address bits : ℕ) (page : Page) (s : Domain)
     ∷ (0 ∷ 1 ∷ 6 ∷ 8 ∷ 19 ∷ [])
     ∷ (0 ∷ 1 ∷ 13 ∷ [])
     ∷ (0 ∷ 1 ∷ 7 ∷ 14 ∷ [])
-    ∷ (0 ∷ 1 ∷ 7 ∷ 10 ∷ 15 ∷ 16 ∷ [])
+    ∷ (0 ∷ 1 ∷ 7 ∷ 15 ∷ 16 ∷ [])
     ∷ (0 ∷ 1 ∷ 2 ∷ 4 ∷ 7 ∷ [])
     ∷ (0 ∷ 1 ∷ 7 ∷ [])
     ∷ (0 ∷ 1 ∷ 7 ∷ [])

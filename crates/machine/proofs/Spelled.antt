@@ -100,7 +100,7 @@ module _ (m : Machine) where
       × (number Return ≡ pick (not privileged) 7 (pick (eqb (m .depth) 0) 14 0))
       × (number (Switch program)
       ≡ pick (not privileged) 7
-      (pick (not (ltb (m .current) (m .programs))) 10 (pick (not (eqb (m .depth) 1)) 15 (pick (not (ltb program (m .programs))) 16 0))))
+      (pick (not (eqb (m .depth) 1)) 15 (pick (not (ltb program (m .programs))) 16 0)))
       × (number (StoreField right page bits)
       ≡ pick (not (leb right 1)) 2 (pick (not (ltb (page .0) (m .pages))) 4 (pick (not privileged) 7 0)))
       × (number (StoreContext bits) ≡ pick (not privileged) 7 0)

@@ -1,17 +1,18 @@
--- When a switch gives each of its numbers: by cases over its tests, in their order.
+-- When a switch gives each of its numbers, and what it gives without the check for 1 on any machine: by cases over its tests, in their order.
 use Prim.Native.Nat.{ℕ, _≤_, _<_}
 use mathlib.Core.Path.{_≡_, refl, sym, subst, _∙_}
-use mathlib.Core.Bool.{Bool, true, false}
+use mathlib.Core.Bool.{Bool, true, false, not}
+use mathlib.Core.List.{[], _∷_}
 use mathlib.Core.Logic.{_↔_}
 use borrow.Author.Tests.{eqb-true, eqb-false, ltb-true, ltb-false, lt-ltb, le-ltb, ne-eqb}
 use lib.Dec.{eqb, ltb}
+use Rattle.rules.specs.Refusals.{_⇒_, first, pick}
 use Rattle.rules.specs.declared.registers.Mode.{Mode}
 use Rattle.rules.specs.declared.registers.Mode.the-variants.{User, Privileged}
 use Rattle.machine.specs.Machine.{isSound}
-use Rattle.machine.specs.Calls.{callOf, numberOf, checksOf}
+use Rattle.machine.specs.Calls.{callOf, uncheckedOf, answerBy, silent, numberOf, checksOf, effectOf, after, switched, inUserMode}
 use Rattle.machine.specs.declared.record.Machine.{Machine}
 use Rattle.machine.specs.declared.record.Call.the-variants.{Switch}
-use Rattle.machine.proofs.Sound.{sound-facts}
 
 -- RULES 3.14, 3.15: where each number of a switch is due
 pub data SwitchGives (m : Machine) (program : ℕ) : ℕ → Type 0 where
@@ -22,16 +23,13 @@ pub data SwitchGives (m : Machine) (program : ℕ) : ℕ → Type 0 where
   done : isSound m ≡ true → m .registers .mode ≡ Privileged → m .depth ≡ 1 → program < m .programs → SwitchGives m program 0
 
 module _ (m : Machine) (program : ℕ) where
-  has-entry : isSound m ≡ true → ltb (m .current) (m .programs) ≡ true
-  has-entry sound = lt-ltb (m .current) (m .programs) (sound-facts m sound .current-below)
-
   number-given : {n : ℕ} → SwitchGives m program n → numberOf m (Switch program) ≡ n
   unfolding checksOf
   number-given (unsound s) = rw s
   number-given (in-user-mode s user) = rw (s, user)
-  number-given (other-depth s kernel other) = rw (s, kernel, has-entry s, ne-eqb (m .depth) 1 other)
-  number-given (no-program s kernel one past) = rw (s, kernel, has-entry s, one, le-ltb program (m .programs) past)
-  number-given (done s kernel one below) = rw (s, kernel, has-entry s, one, lt-ltb program (m .programs) below)
+  number-given (other-depth s kernel other) = rw (s, kernel, ne-eqb (m .depth) 1 other)
+  number-given (no-program s kernel one past) = rw (s, kernel, one, le-ltb program (m .programs) past)
+  number-given (done s kernel one below) = rw (s, kernel, one, lt-ltb program (m .programs) below)
 
   some-number-given : (n : ℕ) × SwitchGives m program n
   some-number-given =
@@ -51,3 +49,19 @@ module _ (m : Machine) (program : ℕ) where
   switch-number-exactly n =
       let one = some-number-given in
       ((λ e. subst (SwitchGives m program) (sym (number-given (one .1)) ∙ e) (one .1)), number-given)
+
+-- RULES 2.8, 3.14, 3.15: the switch without the check for 1 in full, on any machine, whether or not its current program has an entry
+pub unchecked-switch : (m : Machine) (program : ℕ)
+    → uncheckedOf m (Switch program)
+    ≡ pick (inUserMode m) (silent 7 m)
+    (pick (not (eqb (m .depth) 1)) (silent 15 m) (pick (not (ltb program (m .programs))) (silent 16 m) (silent 0 (switched m program))))
+unfolding uncheckedOf checksOf effectOf after
+unchecked-switch m program = split (inUserMode m) (eqb (m .depth) 1) (ltb program (m .programs))
+  where
+    split : (user one there : Bool)
+        → answerBy (first ((user ⇒ 7) ∷ (not one ⇒ 15) ∷ (not there ⇒ 16) ∷ [])) m (Switch program)
+        ≡ pick user (silent 7 m) (pick (not one) (silent 15 m) (pick (not there) (silent 16 m) (silent 0 (switched m program))))
+    split true one there = refl
+    split false false there = refl
+    split false true false = refl
+    split false true true = refl

@@ -4,9 +4,8 @@ use Prim.Native.Nat.{ℕ, _-_, _*_, _≤_, _<_}
 use mathlib.Core.Path.{_≡_, refl, sym, _∙_}
 use mathlib.Core.Bool.{Bool, true, false, not, _&&_, true≢false}
 use mathlib.Core.List.{List, [], _∷_}
-use borrow.Author.Tests.{eqb-false, leb-true, ltb-true, lt-ltb, not-false}
+use borrow.Author.Tests.{eqb-false, leb-true, ltb-true, not-false}
 use native.Mathlib.Omega.{arith}
-use lib.Dec.{ltb, eqb}
 use lib.ListN.{getD, set}
 use lib.Seq.{getD-set-other}
 use Rattle.rules.specs.Registers.{modeWhere, isPrivileged}
@@ -69,11 +68,11 @@ pub record Left (m : Machine) (call : Call) (end : Machine) : Type 0 where
   pub programs-past : (i : ℕ) → m .programs ≤ i → getD (end .table) i noProgram ≡ getD (m .table) i noProgram
   pub stack-past : (i : ℕ) → m .depth ≤ i → (call ≡ Enter → i ≡ m .depth → ⊥) → getD (end .saved) i false ≡ getD (m .saved) i false
 
--- its conditions answer its own numbers or 0, none of which is 1; on a sound machine 10 is none of them, and in privileged mode 9
+-- its conditions answer its own numbers or 0, none of which is 1, and which are those of a sound machine; in privileged mode 9 is none of them
 pub record Numbered (m : Machine) (call : Call) : Type 0 where
   pub own : within (0 ∷ ownNumbers call) (checksOf m call) ≡ true
   pub no-one : isIn 1 (0 ∷ ownNumbers call) ≡ false
-  pub given : isSound m ≡ true → isIn (first (checksOf m call)) soundNumbers ≡ true
+  pub given : within soundNumbers (checksOf m call) ≡ true
   pub no-nine : inPrivilegedMode m ≡ true → avoids 9 (checksOf m call) ≡ true
 
 -- all of it: where a call lists 7 it is accepted in privileged mode alone; what its effect leaves alone; and that this is sound
@@ -92,7 +91,7 @@ tell numbers kernel left sound = record { numbers = numbers; kernel = kernel; le
 plain : (m : Machine) (call : Call) → within (0 ∷ ownNumbers call) (checksOf m call) ≡ true → isIn 1 (0 ∷ ownNumbers call) ≡ false
     → within soundNumbers (checksOf m call) ≡ true → avoids 9 (checksOf m call) ≡ true → Numbered m call
 plain m call own one given nine =
-    record { own = own; no-one = one; given = λ s. first-within soundNumbers (checksOf m call) given; no-nine = λ e. nine }
+    record { own = own; no-one = one; given = given; no-nine = λ e. nine }
 
 -- an effect that changes the registers at most
 untouched : (m : Machine) (call : Call) (r : Registers) → Left m call (withRegisters r m)
@@ -158,14 +157,6 @@ in-privileged-mode m h user = flag-clear (m .registers .pending) (inPrivilegedMo
 clear-calm : {pending : Bool} (mode : Mode) → pending ≡ false → pending && isPrivileged mode ≡ false
 clear-calm mode e = rw e
 
--- a sound machine's current program has an entry, so that a switch is not answered by 10
-switch-given : (user notone badprogram : Bool)
-    → isIn (first ((user ⇒ 7) ∷ (false ⇒ 10) ∷ (notone ⇒ 15) ∷ (badprogram ⇒ 16) ∷ [])) soundNumbers ≡ true
-switch-given true notone badprogram = refl
-switch-given false true badprogram = refl
-switch-given false false true = refl
-switch-given false false false = refl
-
 return-left : (m : Machine) → numberOf m Return ≡ 0 → Left m Return (returned m)
 unfolding checksOf returned
 return-left m n =
@@ -211,24 +202,8 @@ access-numbered m width right address =
     record {
       own = access-either (λ checks. within (0 ∷ ownNumbers call) checks ≡ true) m width right address (λ b₂ b₃ b₈ b₉. (refl, refl));
       no-one = refl;
-      given =
-          λ s.
-          first-within soundNumbers (checksOf m call)
-          (access-either (λ checks. within soundNumbers checks ≡ true) m width right address (λ b₂ b₃ b₈ b₉. (refl, refl)));
+      given = access-either (λ checks. within soundNumbers checks ≡ true) m width right address (λ b₂ b₃ b₈ b₉. (refl, refl));
       no-nine = λ e. rw e;
-    }
-
-switch-numbered : (m : Machine) (program : ℕ) → Numbered m (Switch program)
-unfolding checksOf
-switch-numbered m program =
-    record {
-      own = refl;
-      no-one = refl;
-      given =
-          λ s.
-          rw (lt-ltb (m .current) (m .programs) (sound-facts m s .current-below))
-          (switch-given (inUserMode m) (not (eqb (m .depth) 1)) (not (ltb program (m .programs))));
-      no-nine = λ e. refl;
     }
 
 pub told : (m : Machine) (call : Call) → Told m call
@@ -257,7 +232,7 @@ told m Return =
     (clear-calm (modeWhere (getD (m .saved) (m .depth - 1) false)) clear) (facts .violation-fits))
 told m (Switch program) =
     let call = Switch program in
-    tell (switch-numbered m program) (λ lists. kernel's m call 0 refl refl) (switch-left m program) (λ s n.
+    tell (plain m call refl refl refl refl) (λ lists. kernel's m call 0 refl refl) (switch-left m program) (λ s n.
     let facts = sound-facts m s in
     moved-sound m (switched m program) (refl, refl, refl) s (facts .depth-most) (switch-named m program n) (facts .calm) (facts .violation-fits))
 told m (StoreField right page bits) =

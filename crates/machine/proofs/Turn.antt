@@ -82,7 +82,7 @@ module _ (m : Machine) (top : Bool) (rest : List Bool) (program : ℕ) where
       let two = moved-sound start (switched (entered start) program) (refl, refl, refl) sound (omega arith) below refl (s .violation-fits) in
       record {
         entry = rw sound;
-        switch = rw (one, lt-ltb (m .current) (m .programs) (s .current-below), lt-ltb program (m .programs) below);
+        switch = rw (one, lt-ltb program (m .programs) below);
         return = rw (two, mode-back (m .registers .mode), mode-back (getD (home start) program noProgram .mode));
         sound = moved-sound start (turned start program) (refl, refl, refl) sound (omega arith) below refl (s .violation-fits);
       }

@@ -173,14 +173,10 @@ ruleOf m (SetMask bits) = plain m (maskChecks (m .registers) bits) (withRegister
 ruleOf m Enter = plain m ((not (ltb (m .depth) 8) ⇒ 13) ∷ []) (entered m)
 -- RULES 3.12, 3.13: return
 ruleOf m Return = plain m ((inUserMode m ⇒ 7) ∷ (eqb (m .depth) 0 ⇒ 14) ∷ []) (returned m)
--- RULES 3.14, 3.15: switch. A sound machine never meets 10 (9.2).
+-- RULES 3.14, 3.15: switch. It does not ask whether the current program has an entry: a sound machine's has one.
 ruleOf m (Switch program) =
     plain m
-    ((inUserMode m ⇒ 7)
-    ∷ (not (ltb (m .current) (m .programs)) ⇒ 10)
-    ∷ (not (eqb (m .depth) 1) ⇒ 15)
-    ∷ (not (ltb program (m .programs)) ⇒ 16)
-    ∷ [])
+    ((inUserMode m ⇒ 7) ∷ (not (eqb (m .depth) 1) ⇒ 15) ∷ (not (ltb program (m .programs)) ⇒ 16) ∷ [])
     (switched m program)
 -- RULES 3.16, 3.17: the kernel's store of a field. No store touches the current program's table entry.
 ruleOf m (StoreField right page bits) =

@@ -19,7 +19,7 @@ ownNumbers (Revoke right page s) = 2 ∷ 4 ∷ 5 ∷ 6 ∷ 8 ∷ 11 ∷ 12 ∷ [
 ownNumbers (SetMask bits) = 6 ∷ 8 ∷ 19 ∷ []
 ownNumbers Enter = 13 ∷ []
 ownNumbers Return = 7 ∷ 14 ∷ []
-ownNumbers (Switch program) = 7 ∷ 10 ∷ 15 ∷ 16 ∷ []
+ownNumbers (Switch program) = 7 ∷ 15 ∷ 16 ∷ []
 ownNumbers (StoreField right page bits) = 2 ∷ 4 ∷ 7 ∷ []
 ownNumbers (StoreContext bits) = 7 ∷ []
 ownNumbers (StoreMask bits) = 7 ∷ []
@@ -30,8 +30,7 @@ ownNumbers AskViolation = 7 ∷ []
 abbrev pub listed : Call → List ℕ
 listed call = 0 ∷ 1 ∷ ownNumbers call
 
--- RULES 2.4, 9.2: the numbers of calls on a sound machine. 1 is for other machines, and 10 is not among them, since a sound machine's current
--- program has a table entry.
+-- RULES 2.4, 2.8: the numbers of calls on a sound machine, and of calls without the check for 1 on any. 1 is for the others. 10 is given by nothing (9.2).
 abbrev pub soundNumbers : List ℕ
 soundNumbers =
     0 ∷ 2 ∷ 3 ∷ 4 ∷ 5 ∷ 6 ∷ 7 ∷ 8 ∷ 9 ∷ 11 ∷ 12 ∷ 13 ∷ 14 ∷ 15 ∷ 16 ∷ 17 ∷ 19 ∷ []

@@ -429,14 +429,12 @@ impl Machine {
         let mut registers = self.registers;
         let mut current = self.current;
         let mut table = self.table;
-        let programs = self.programs;
         let number = checked(
             unsound,
             switch_number(
                 !registers.privileged(),
-                !(current < programs),
                 !(self.depth == 1),
-                !(program < programs),
+                !(program < self.programs),
             ),
         );
         if number == 0 {

@@ -102,14 +102,11 @@ pub fn return_number(user: bool, empty: bool) -> u8
     0
 }
 
-pub fn switch_number(user: bool, noentry: bool, notone: bool, badprogram: bool) -> u8
-    ensures { λ r. ⌜ r ≡ first ((user ⇒ 7) ∷ (noentry ⇒ 10) ∷ (notone ⇒ 15) ∷ (badprogram ⇒ 16) ∷ []) ⌝ }
+pub fn switch_number(user: bool, notone: bool, badprogram: bool) -> u8
+    ensures { λ r. ⌜ r ≡ first ((user ⇒ 7) ∷ (notone ⇒ 15) ∷ (badprogram ⇒ 16) ∷ []) ⌝ }
 {
     if user {
         return 7;
-    }
-    if noentry {
-        return 10;
     }
     if notone {
         return 15;

@@ -35,7 +35,7 @@ from-given m [] (suc i) s = refl
 from-given m (call ∷ rest) zero s = step-given m call s
 from-given m (call ∷ rest) (suc i) s = from-given (stepOf m call .machine) rest i (step-sound m call s)
 
--- RULES 9.3: the answer of every call of a run, 0 standing past the last: neither 1 nor 10 is among them
+-- RULES 9.3: the answer of every call of a run, 0 standing past the last: 1 is not among them
 pub answers-given : (input : List ℕ) (i : ℕ) → isIn (getD (callAnswers input) i 0) (18 ∷ soundNumbers) ≡ true
 unfolding callSteps
 answers-given input i = split (eqb (loadedOf input .number) 0) refl

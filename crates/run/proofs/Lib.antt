@@ -1,7 +1,7 @@
 pub mod Parts
 pub mod Steps
 pub mod Sent
-mod Given
+pub mod Given
 pub mod Examples
 pub mod Pinned
 pub mod Spelled
