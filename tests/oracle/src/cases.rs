@@ -4,7 +4,7 @@
 //!
 //! A run starts from a loaded machine, which is sound, and every call keeps it so; a violation
 //! is stored by a program of the table with a right and an address that were found good before.
-//! So no case has answer 1, or answer 10, which waits behind 1.
+//! So no case has answer 1. None has answer 10, since nothing gives it (RULES 9.2).
 
 mod commands;
 mod empty_masks;

@@ -12,7 +12,7 @@ const LEAST: u64 = 20;
 const ROWS: usize = run::LAST_KIND as usize + 1;
 
 /// Which of the numbers (RULES 9.1) can occur in a run for each kind.
-/// A loaded machine is sound and stays so, so 1 and 10 cannot.
+/// A loaded machine is sound and stays so, so 1 cannot. Nothing gives 10 (RULES 9.2).
 pub const CAN_OCCUR: [(&str, &[u8]); ROWS] = [
     ("unknown kind", &[18]),
     ("access", &[0, 2, 3, 8, 9]),

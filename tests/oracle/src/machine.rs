@@ -322,11 +322,11 @@ impl Machine {
         Ok(())
     }
 
+    /// A sound machine has an entry for its current program. So the first check also guards the store
+    /// below, and the current program needs no check of its own (RULES 3.14, 9.2).
     pub fn switch(&mut self, named: u16) -> Answer {
         self.refuse_unsound()?;
         self.refuse_in_user_mode()?;
-        // A sound machine has an entry for its current program, so 10 waits behind 1.
-        refuse_if(self.current >= self.programs.len(), 10)?;
         refuse_if(self.depth() != 1, 15)?;
         refuse_if(named as usize >= self.programs.len(), 16)?;
         // The saved mode is the program's own; the live one is the kernel's.
