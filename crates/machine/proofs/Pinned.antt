@@ -375,7 +375,7 @@ pub unchecked-outcomes :
       Switch 1,
       0,
       whole 3 8 (1 ∷ 2 ∷ []) (live 1 2 Privileged false) 1 (replicate 8 true) 2 1
-      (replicate 2 (stored 1 2 Privileged) ++ stored 0x0101 0xFF01 Privileged ∷ replicate 5 (stored 1 2 Privileged)),
+          (replicate 2 (stored 1 2 Privileged) ++ stored 0x0101 0xFF01 Privileged ∷ replicate 5 (stored 1 2 Privileged)),
     )
     ∷ (many, StoreContext 5, 0, withRegisters (live 5 0xFF01 Privileged false) many)
     ∷ [])

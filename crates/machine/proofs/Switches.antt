@@ -1,18 +1,20 @@
--- When a switch gives each of its numbers, and what it gives without the check for 1 on any machine: by cases over its tests, in their order.
+-- When a switch gives each of its numbers, that one which also asked for the current program's entry would do the same, and what it does without the
+-- check for 1 on any machine: by cases over its tests, in their order.
 use Prim.Native.Nat.{ℕ, _≤_, _<_}
 use mathlib.Core.Path.{_≡_, refl, sym, subst, _∙_}
 use mathlib.Core.Bool.{Bool, true, false, not}
-use mathlib.Core.List.{[], _∷_}
+use mathlib.Core.List.{List, [], _∷_}
 use mathlib.Core.Logic.{_↔_}
 use borrow.Author.Tests.{eqb-true, eqb-false, ltb-true, ltb-false, lt-ltb, le-ltb, ne-eqb}
 use lib.Dec.{eqb, ltb}
-use Rattle.rules.specs.Refusals.{_⇒_, first, pick}
+use Rattle.rules.specs.Refusals.{Check, _⇒_, first, pick}
 use Rattle.rules.specs.declared.registers.Mode.{Mode}
 use Rattle.rules.specs.declared.registers.Mode.the-variants.{User, Privileged}
 use Rattle.machine.specs.Machine.{isSound}
 use Rattle.machine.specs.Calls.{callOf, uncheckedOf, answerBy, silent, numberOf, checksOf, effectOf, after, switched, inUserMode}
 use Rattle.machine.specs.declared.record.Machine.{Machine}
 use Rattle.machine.specs.declared.record.Call.the-variants.{Switch}
+use Rattle.machine.proofs.Sound.{sound-facts}
 
 -- RULES 3.14, 3.15: where each number of a switch is due
 pub data SwitchGives (m : Machine) (program : ℕ) : ℕ → Type 0 where
@@ -23,16 +25,16 @@ pub data SwitchGives (m : Machine) (program : ℕ) : ℕ → Type 0 where
   done : isSound m ≡ true → m .registers .mode ≡ Privileged → m .depth ≡ 1 → program < m .programs → SwitchGives m program 0
 
 module _ (m : Machine) (program : ℕ) where
-  number-given : {n : ℕ} → SwitchGives m program n → numberOf m (Switch program) ≡ n
+  switch-number-given : {n : ℕ} → SwitchGives m program n → numberOf m (Switch program) ≡ n
   unfolding checksOf
-  number-given (unsound s) = rw s
-  number-given (in-user-mode s user) = rw (s, user)
-  number-given (other-depth s kernel other) = rw (s, kernel, ne-eqb (m .depth) 1 other)
-  number-given (no-program s kernel one past) = rw (s, kernel, one, le-ltb program (m .programs) past)
-  number-given (done s kernel one below) = rw (s, kernel, one, lt-ltb program (m .programs) below)
+  switch-number-given (unsound s) = rw s
+  switch-number-given (in-user-mode s user) = rw (s, user)
+  switch-number-given (other-depth s kernel other) = rw (s, kernel, ne-eqb (m .depth) 1 other)
+  switch-number-given (no-program s kernel one past) = rw (s, kernel, one, le-ltb program (m .programs) past)
+  switch-number-given (done s kernel one below) = rw (s, kernel, one, lt-ltb program (m .programs) below)
 
-  some-number-given : (n : ℕ) × SwitchGives m program n
-  some-number-given =
+  some-switch-number : (n : ℕ) × SwitchGives m program n
+  some-switch-number =
       split (isSound m) refl (m .registers .mode) refl (eqb (m .depth) 1) refl (ltb program (m .programs)) refl
     where
       split : (sound : Bool) → isSound m ≡ sound → (mode : Mode) → m .registers .mode ≡ mode → (one : Bool) → eqb (m .depth) 1 ≡ one
@@ -47,8 +49,28 @@ module _ (m : Machine) (program : ℕ) where
   pub switch-number-exactly : (n : ℕ) → (callOf m (Switch program) .number ≡ n) ↔ SwitchGives m program n
   unfolding callOf
   switch-number-exactly n =
-      let one = some-number-given in
-      ((λ e. subst (SwitchGives m program) (sym (number-given (one .1)) ∙ e) (one .1)), number-given)
+      let one = some-switch-number in
+      ((λ e. subst (SwitchGives m program) (sym (switch-number-given (one .1)) ∙ e) (one .1)), switch-number-given)
+
+  -- the conditions of a switch that also asks whether the current program has an entry
+  abbrev asking : List Check
+  asking =
+      (inUserMode m ⇒ 7)
+      ∷ (not (ltb (m .current) (m .programs)) ⇒ 10)
+      ∷ (not (eqb (m .depth) 1) ⇒ 15)
+      ∷ (not (ltb program (m .programs)) ⇒ 16)
+      ∷ []
+
+  -- RULES 3.15, 9.2: it would answer the same on every machine: a sound one's current program has an entry, and on the others 1 comes first
+  pub entry-asked-in-vain : callOf m (Switch program) ≡ answerBy (first ((not (isSound m) ⇒ 1) ∷ asking)) m (Switch program)
+  unfolding callOf checksOf
+  entry-asked-in-vain = split (isSound m) refl
+    where
+      split : (sound : Bool) → isSound m ≡ sound
+          → answerBy (first ((not sound ⇒ 1) ∷ checksOf m (Switch program))) m (Switch program)
+          ≡ answerBy (first ((not sound ⇒ 1) ∷ asking)) m (Switch program)
+      split true s = rw (lt-ltb (m .current) (m .programs) (sound-facts m s .current-below))
+      split false s = refl
 
 -- RULES 2.8, 3.14, 3.15: the switch without the check for 1 in full, on any machine, whether or not its current program has an entry
 pub unchecked-switch : (m : Machine) (program : ℕ)

@@ -30,7 +30,8 @@ ownNumbers AskViolation = 7 ∷ []
 abbrev pub listed : Call → List ℕ
 listed call = 0 ∷ 1 ∷ ownNumbers call
 
--- RULES 2.4, 2.8: the numbers of calls on a sound machine, and of calls without the check for 1 on any. 1 is for the others. 10 is given by nothing (9.2).
+-- RULES 2.4, 2.8: the numbers of calls on a sound machine, and of calls without the check for 1 on any. 1 is for calls by value
+-- on machines that are not sound, and 10 is given by nothing (9.2).
 abbrev pub soundNumbers : List ℕ
 soundNumbers =
     0 ∷ 2 ∷ 3 ∷ 4 ∷ 5 ∷ 6 ∷ 7 ∷ 8 ∷ 9 ∷ 11 ∷ 12 ∷ 13 ∷ 14 ∷ 15 ∷ 16 ∷ 17 ∷ 19 ∷ []

@@ -19,6 +19,7 @@ use Rattle.machine.proofs.Told.{within, first-within}
 use Rattle.machine.proofs.Laws.{unchecked-number}
 use Rattle.image.specs.Load.{loadChecks, loadOf}
 use Rattle.image.specs.Write.{writeChecks, writtenOf}
+use Rattle.planner.specs.Ancestors.{isAncestor}
 use Rattle.planner.specs.Plan.{planChecks, plannedOf}
 use Rattle.masks.specs.Least.{leastChecks, leastMaskOf, pairChecks}
 use Rattle.run.specs.Records.{stepBy}
@@ -92,7 +93,7 @@ answers-listed (by-writing m room) = first-within everyNumber (writeChecks m roo
 answers-listed (by-step m (Known call)) = unchecked-listed m call
 answers-listed (by-step m Unknown) = refl
 answers-listed (by-run input room i) = run-listed input room i
-answers-listed (by-plan list above) = first-within everyNumber (planChecks list above) refl
+answers-listed (by-plan list) = first-within everyNumber (planChecks list (isAncestor list)) refl
 answers-listed (by-least-mask m pairs) = first-within everyNumber (leastChecks m pairs) (pairs-listed (m .pages) pairs _ refl)
 
 pub never-given : {n : ℕ} → isIn n everyNumber ≡ false → Given n → ⊥

@@ -1,7 +1,6 @@
 -- What is an answer of the core, and which numbers are listed, written out: a definition that was misread makes the two sides differ.
 use Prim.Native.Nat.{ℕ}
 use mathlib.Core.Path.{_≡_, refl}
-use mathlib.Core.Bool.{Bool}
 use mathlib.Core.List.{List, [], _∷_}
 use lib.ListN.{getD}
 use Rattle.rules.specs.Registers.{maskedOf}
@@ -11,7 +10,7 @@ use Rattle.machine.specs.declared.record.Machine.{Machine}
 use Rattle.machine.specs.declared.record.Call.{Call}
 use Rattle.image.specs.Load.{loadOf}
 use Rattle.image.specs.Write.{writtenOf}
-use Rattle.planner.specs.Plan.{plannedOf}
+use Rattle.planner.specs.Plan.{planOf}
 use Rattle.masks.specs.Least.{leastMaskOf}
 use Rattle.run.specs.Records.{uncheckedStepOf}
 use Rattle.run.specs.Run.{sent}
@@ -27,7 +26,7 @@ pub given-spelled :
     × ((m : Machine) (room : ℕ) → Given (writtenOf m room .number))
     × ((m : Machine) (decoded : Decoded) → Given (uncheckedStepOf m decoded .number))
     × ((input : List ℕ) (room i : ℕ) → Given (getD (sent input room) i 0))
-    × ((list : List ℕ) (above : ℕ → ℕ → Bool) → Given (plannedOf list above .number))
+    × ((list : List ℕ) → Given (planOf list .number))
     × ((m : Machine) (pairs : List ℕ) → Given (leastMaskOf m pairs .number))
 given-spelled = (by-call, by-unchecked, by-lent-record, by-load, by-writing, by-step, by-run, by-plan, by-least-mask)
 

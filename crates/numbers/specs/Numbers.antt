@@ -1,6 +1,5 @@
 -- Every number that the core answers (RULES, section 9), whatever it is asked.
 use Prim.Native.Nat.{ℕ}
-use mathlib.Core.Bool.{Bool}
 use mathlib.Core.List.{List, [], _∷_}
 use lib.ListN.{getD}
 use Rattle.rules.specs.Registers.{maskedOf}
@@ -10,7 +9,7 @@ use Rattle.machine.specs.declared.record.Machine.{Machine}
 use Rattle.machine.specs.declared.record.Call.{Call}
 use Rattle.image.specs.Load.{loadOf}
 use Rattle.image.specs.Write.{writtenOf}
-use Rattle.planner.specs.Plan.{plannedOf}
+use Rattle.planner.specs.Plan.{planOf}
 use Rattle.masks.specs.Least.{leastMaskOf}
 use Rattle.run.specs.Records.{uncheckedStepOf}
 use Rattle.run.specs.Run.{sent}
@@ -32,8 +31,8 @@ pub data Given : (number : ℕ) → Type 0 where
   by-step : (m : Machine) (decoded : Decoded) → Given (uncheckedStepOf m decoded .number)
   -- RULES 7.2: an answer of a run, in a buffer of so many bytes; past the last answer 0 stands here
   by-run : (input : List ℕ) (room i : ℕ) → Given (getD (sent input room) i 0)
-  -- RULES 11.4: a plan, whatever tells the ancestors
-  by-plan : (list : List ℕ) (above : ℕ → ℕ → Bool) → Given (plannedOf list above .number)
+  -- RULES 11.4: a plan
+  by-plan : (list : List ℕ) → Given (planOf list .number)
   -- RULES 12.4: the least mask
   by-least-mask : (m : Machine) (pairs : List ℕ) → Given (leastMaskOf m pairs .number)
 
