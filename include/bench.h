@@ -85,10 +85,10 @@
  * The version of this header, so that a program can ask which one it is
  * compiled with. The major number grows where a program that was right may
  * have to change: other answers to the calls listed here, another image,
- * another duty of the caller. The minor number grows where something is only
- * added: a record that was answered by 18 becomes a call, or there is one more
- * function or constant. The library carries no number, so take the two from
- * the same checkout.
+ * another duty of the caller, a constant that is gone. The minor number grows
+ * where something is only added: a record that was answered by 18 becomes a
+ * call, or there is one more function or constant. The library carries no
+ * number, so take the two from the same checkout.
  *
  * From 2.0 on an access of two bytes is presented by kind 13. Kind 1 asks for
  * one byte alone; before, the first byte's page decided for both.

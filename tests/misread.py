@@ -44,6 +44,7 @@ TOGETHER = 100
 # What the prover says where a fact fails, as in refused.py.
 FACT = (
     'the two types',
+    'the two indices',
     'expected type',
     'give a proof of that as the last argument',
     'the goal does not follow',

@@ -13,6 +13,7 @@ import sys
 
 FACT = (
     'the two types',
+    'the two indices',
     'expected type',
     'give a proof of that as the last argument',
     'the goal does not follow',

@@ -82,7 +82,7 @@ run-listed input room i = split (isLong input) (leb (length (answersOf input)) r
     split false true = all i
     split false false = none i
 
--- RULES 9.1: whatever the core is asked, its answer is a listed number
+-- RULES 9.1: each answer of the core is a listed number
 pub answers-listed : {n : ℕ} → Given n → isIn n everyNumber ≡ true
 unfolding maskedOf writtenOf writeChecks plannedOf planChecks leastMaskOf leastChecks stepBy
 answers-listed (by-call m call) = call-listed m call
