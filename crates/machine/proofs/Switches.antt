@@ -1,5 +1,5 @@
--- When a switch gives each of its numbers, that one which also asked for the current program's entry would do the same, and what it does without the
--- check for 1 on any machine: by cases over its tests, in their order.
+-- The switch: when it gives each of its numbers, that a test for the current program's entry would change no answer, and what it does without the check
+-- for 1 on any machine. By cases over its tests, in their order.
 use Prim.Native.Nat.{ℕ, _≤_, _<_}
 use mathlib.Core.Path.{_≡_, refl, sym, subst, _∙_}
 use mathlib.Core.Bool.{Bool, true, false, not}

@@ -24,7 +24,7 @@ use Rattle.planner.specs.Plan.{planChecks, plannedOf}
 use Rattle.masks.specs.Least.{leastChecks, leastMaskOf, pairChecks}
 use Rattle.run.specs.Records.{stepBy}
 use Rattle.run.specs.Run.{imageOf, callAnswers, answersOf, isLong, sent}
-use Rattle.run.proofs.Given.{answers-given}
+use Rattle.run.proofs.Given.{none-given, answers-given}
 use Rattle.run.specs.declared.records.Decoded.the-variants.{Known, Unknown}
 use Rattle.numbers.specs.Numbers.{Given, everyNumber, by-call, by-unchecked, by-lent-record, by-load, by-writing, by-step, by-run, by-plan, by-least-mask}
 
@@ -69,18 +69,14 @@ run-listed : (input : List ℕ) (room i : ℕ) → isIn (getD (sent input room) 
 unfolding sent
 run-listed input room i = split (isLong input) (leb (length (answersOf input)) room)
   where
-    none : (j : ℕ) → isIn (getD {A = ℕ} [] j 0) everyNumber ≡ true
-    none zero = refl
-    none (suc j) = refl
-
     all : (j : ℕ) → isIn (getD (answersOf input) j 0) everyNumber ≡ true
     all zero = load-listed (imageOf input)
     all (suc j) = among (getD (callAnswers input) j 0) (18 ∷ soundNumbers) refl (answers-given input j)
 
     split : (long fits : Bool) → isIn (getD (pick long [] (pick fits (answersOf input) [])) i 0) everyNumber ≡ true
-    split true fits = none i
+    split true fits = none-given everyNumber i refl
     split false true = all i
-    split false false = none i
+    split false false = none-given everyNumber i refl
 
 -- RULES 9.1: each answer of the core is a listed number
 pub answers-listed : {n : ℕ} → Given n → isIn n everyNumber ≡ true
@@ -96,6 +92,7 @@ answers-listed (by-run input room i) = run-listed input room i
 answers-listed (by-plan list) = first-within everyNumber (planChecks list (isAncestor list)) refl
 answers-listed (by-least-mask m pairs) = first-within everyNumber (leastChecks m pairs) (pairs-listed (m .pages) pairs _ refl)
 
+-- RULES 9.2: a number that is not listed is no answer
 pub never-given : {n : ℕ} → isIn n everyNumber ≡ false → Given n → ⊥
 never-given other given = true≢false (sym (answers-listed given) ∙ other)
 

@@ -28,10 +28,14 @@ step-given m (Known call) s = either (eqb (callOf m call .number) 18) (isIn (cal
     either false b h = h
 step-given m Unknown s = refl
 
+-- where there is no answer 0 stands
+pub none-given : (l : List ℕ) (i : ℕ) → isIn 0 l ≡ true → isIn (getD {A = ℕ} [] i 0) l ≡ true
+none-given l zero h = h
+none-given l (suc i) h = h
+
 from-given : (m : Machine) (calls : List Decoded) (i : ℕ) → isSound m ≡ true → isIn (getD (numbersOf (stepsFrom m calls)) i 0) (18 ∷ soundNumbers) ≡ true
 unfolding stepsFrom
-from-given m [] zero s = refl
-from-given m [] (suc i) s = refl
+from-given m [] i s = none-given (18 ∷ soundNumbers) i refl
 from-given m (call ∷ rest) zero s = step-given m call s
 from-given m (call ∷ rest) (suc i) s = from-given (stepOf m call .machine) rest i (step-sound m call s)
 
@@ -40,11 +44,7 @@ pub answers-given : (input : List ℕ) (i : ℕ) → isIn (getD (callAnswers inp
 unfolding callSteps
 answers-given input i = split (eqb (loadedOf input .number) 0) refl
   where
-    none : (j : ℕ) → isIn (getD {A = ℕ} [] j 0) (18 ∷ soundNumbers) ≡ true
-    none zero = refl
-    none (suc j) = refl
-
     split : (b : Bool) → eqb (loadedOf input .number) 0 ≡ b
         → isIn (getD (numbersOf (pick b (stepsFrom (loadedOf input .machine) (callsOf (callBytes input))) [])) i 0) (18 ∷ soundNumbers) ≡ true
     split true e = from-given (loadedOf input .machine) (callsOf (callBytes input)) i (loaded (imageOf input) (eqb-true _ 0 e) .sound)
-    split false e = none i
+    split false e = none-given (18 ∷ soundNumbers) i refl
