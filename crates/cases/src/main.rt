@@ -1,6 +1,8 @@
 // Runs stored cases and prints what each gives, to be held to what the independent program under tests/oracle says. Standard input holds them
 // one after another: a kind (1 byte), a length (3 bytes, high byte first), and that many bytes. Kind 1 is a case of writing (writing.rt); a
 // case of any other kind is an input, and its text is printed. It reads 524,288 bytes; where there are more, its last line says so.
+#![tactic(auto)]
+
 mod writing;
 
 ghost use Rattle.std.specs.Prelude.{◌≡◌, ◌≤◌, length};

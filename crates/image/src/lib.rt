@@ -1,4 +1,6 @@
 // Images (RULES, section 5): the loader, from bytes to a number and a machine, and the writer, from a machine to bytes.
+#![tactic(auto)]
+
 pub mod bytes;
 pub mod loader;
 pub mod refusals;

@@ -13,7 +13,7 @@ use machine::record::{Machine, Program, read_field, read_program, write_program}
 use rules::registers::{Mode, Registers};
 
 // What the writer gives back: its number, and how many bytes it wrote.
-#[derive(Drop)]
+#[derive(Clone, Copy)]
 pub struct Written {
     pub number: u8,
     pub count: usize,

@@ -1,5 +1,7 @@
 // A node's kernel in small, for those who write one: it boots from an image, gives a program its turn and serves what the program asks for.
 // docs/KERNEL.md goes through it. It prints what its calls answer on the sample node.
+#![tactic(auto)]
+
 ghost use Rattle.std.specs.Prelude.{true, false, ◌≡◌, ◌<◌, eqb, get_or, set};
 ghost use Rattle.rules.specs.Refusals.{pick};
 ghost use Rattle.machine.specs.Calls.{call_of};
@@ -14,7 +16,7 @@ use libc::STDOUT_FILENO;
 use machine::{Answered, Domain, Machine, Page, Report, Width};
 
 // What a program asks its kernel for: the accesses of its instructions, to one byte or to two, and its commands.
-#[derive(Drop)]
+#[derive(Clone, Copy)]
 pub enum Request {
     Read(Width, u32),
     Write(Width, u32),
@@ -24,7 +26,7 @@ pub enum Request {
 }
 
 // The numbers of the three calls with which a turn begins, and the machine after them.
-#[derive(Drop)]
+#[derive(Clone, Copy)]
 pub struct Begun {
     pub entry: u8,
     pub switch: u8,
@@ -33,7 +35,7 @@ pub struct Begun {
 }
 
 // How many requests of a list were refused, and the machine after the last.
-#[derive(Drop)]
+#[derive(Clone, Copy)]
 pub struct Served {
     pub refused: u8,
     pub machine: Machine,

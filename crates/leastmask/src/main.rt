@@ -1,6 +1,8 @@
 // Prints the least mask for subroutines of the programs of images (RULES 12.7). Standard input holds the cases one after another: the length of an image (2 bytes, high byte
 // first), the image, a program (2 bytes), a count of pairs (2 bytes), and the pairs, 4 bytes each: right, page. It reads at most 65,536 bytes, and leaves out a case that these cut. For each there is a
 // line: which case it is, counted from 1, `start` and how the node started, `mask` and the number, the mask in hexadecimal, and its domains, or `-` where it has none.
+#![tactic(auto)]
+
 ghost use Rattle.std.specs.Prelude.{◌≡◌, ◌++◌, ◌≤◌, ◌/◌, length, drop};
 ghost use Rattle.rules.specs.Domains.{holds};
 ghost use Rattle.rules.specs.Refusals.{pick};

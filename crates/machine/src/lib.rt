@@ -1,5 +1,7 @@
 // The machine and its calls (RULES, sections 1 to 3): a call by value gives its number, the machine after it and what it reports; the mask
 // command is also there on the register record that the kernel lends.
+#![tactic(auto)]
+
 pub mod calls;
 pub mod lent;
 pub mod record;

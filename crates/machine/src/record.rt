@@ -9,7 +9,7 @@ ghost use Rattle.machine.specs.declared.record.Report.TheVariants.{Nothing};
 use rules::registers::{Mode, Registers};
 
 // What is stored for a program: global context, mask and mode (RULES 1.2).
-#[derive(Drop)]
+#[derive(Clone, Copy)]
 pub struct Program {
     pub context: u16,
     pub mask: u16,
@@ -17,15 +17,15 @@ pub struct Program {
 }
 
 // A page number, which cannot be passed for a domain number (RULES 1.10).
-#[derive(Drop)]
+#[derive(Clone, Copy)]
 pub struct Page(pub u16);
 
 // A domain number.
-#[derive(Drop)]
+#[derive(Clone, Copy)]
 pub struct Domain(pub u16);
 
 // A violation: the program that was denied, and the right and the whole address of its access (RULES 1.16).
-#[derive(Drop)]
+#[derive(Clone, Copy)]
 pub struct Violation {
     pub program: u16,
     pub right: u8,
@@ -33,20 +33,20 @@ pub struct Violation {
 }
 
 // The last violation, or that there was none since the load.
-#[derive(Drop)]
+#[derive(Clone, Copy)]
 pub enum LastViolation {
     Absent,
     Was(Violation),
 }
 
 // What the machine keeps of violations. A struct around the enum, since a field that is an enum cannot be stored to by itself.
-#[derive(Drop)]
+#[derive(Clone, Copy)]
 pub struct Violations {
     pub last: LastViolation,
 }
 
 // The parts of RULES 1.2. The field of a right r to page p stands at 2p + r. A saved mode is kept as whether it is privileged.
-#[derive(Drop)]
+#[derive(Clone, Copy)]
 pub struct Machine {
     pub pages: u16,
     pub exponent: u8,
@@ -61,7 +61,7 @@ pub struct Machine {
 }
 
 // What an answer reports beside its number and its machine (RULES 2.13).
-#[derive(Drop)]
+#[derive(Clone, Copy)]
 pub enum Report {
     Nothing,
     Denied(Violation),
@@ -69,7 +69,7 @@ pub enum Report {
 }
 
 // What a call gives back: its number, the machine after it, and what it reports (RULES 2.1).
-#[derive(Drop)]
+#[derive(Clone, Copy)]
 pub struct Answered {
     pub number: u8,
     pub machine: Machine,
@@ -77,14 +77,14 @@ pub struct Answered {
 }
 
 // How many bytes an access touches (RULES 3.2).
-#[derive(Drop)]
+#[derive(Clone, Copy)]
 pub enum Width {
     One,
     Two,
 }
 
 // One of the twelve calls (RULES 2.1), with arguments as RULES 2.6 has them.
-#[derive(Drop)]
+#[derive(Clone, Copy)]
 pub enum Call {
     Access(Width, u8, u32),
     Grant(u8, Page, Domain),

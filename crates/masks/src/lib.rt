@@ -1,5 +1,7 @@
 // The least mask for a subroutine, for integrators (RULES, section 12): from a machine and a list of pairs of right and page to the smallest local context under which
 // all of them are allowed.
+#![tactic(auto)]
+
 ghost use Rattle.std.specs.Prelude.{◌≡◌, false, [], ◌∷◌, map, ◌++◌, ◌≤◌, length, drop};
 ghost use Rattle.std.specs.Int.Bits.{bit_or};
 ghost use Rattle.rules.specs.Refusals.{first};
@@ -12,7 +14,7 @@ use machine::record::read_field;
 use rules::domains::{with_bit, without_bit};
 
 // What is given: a number, and the least mask, which is 0 where the number is not (RULES 12.3, 12.5).
-#[derive(Drop)]
+#[derive(Clone, Copy)]
 pub struct LeastMask {
     pub number: u8,
     pub mask: u16,

@@ -1,5 +1,7 @@
 // `pagerun` (RULES, section 8): reads standard input to its end, or to the first byte past the most that is taken, and writes the text of the
 // run. What the text is, `text::text_of` says and proves.
+#![tactic(auto)]
+
 use libc::{STDIN_FILENO, STDOUT_FILENO};
 
 fn main() {

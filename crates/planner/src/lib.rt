@@ -1,4 +1,6 @@
 // The planner of contexts, for site configurators (RULES, section 11): from the parents of contexts to their global contexts.
+#![tactic(auto)]
+
 ghost use Rattle.std.specs.Prelude.{◌≡◌, true, false, ◌≤◌, length, replicate};
 ghost use Rattle.machine.specs.Calls.{any};
 ghost use Rattle.planner.specs.Plan.{is_count, is_missing, plan_of};
@@ -10,7 +12,7 @@ use rules::domains::with_bit;
 pub const NO_PARENT: u8 = 255;
 
 // A plan: its number, and the global context of each context, in sixteen places (RULES 11.3, 11.4).
-#[derive(Drop)]
+#[derive(Clone, Copy)]
 pub struct Planned {
     pub number: u8,
     pub contexts: [u16; 16],

@@ -1,6 +1,8 @@
 // Plans stored lists of contexts and prints what each gives, to be held to what the independent program under tests/oracle says. Standard input holds the lists one
 // after another: a length (2 bytes, high byte first), and that many bytes, one a context (RULES 11.1). A list that the input cuts is left out. For each there is a
 // line: which list it is, counted from 1, the number of its plan, and the sixteen places in hexadecimal.
+#![tactic(auto)]
+
 ghost use Rattle.std.specs.Prelude.{◌≡◌, ◌≤◌, length};
 ghost use Rattle.planner.specs.Plan.{plan_of};
 

@@ -1,4 +1,6 @@
 // The rights over a site (RULES, section 13): from the images of an input to how many rights each domain has over all of them.
+#![tactic(auto)]
+
 ghost use Rattle.std.specs.Prelude.{◌≡◌, [], ◌∷◌, ◌+◌, ◌*◌, ◌≤◌, length};
 ghost use Rattle.rules.specs.Domains.{holds};
 ghost use Rattle.rules.specs.Refusals.{pick};
@@ -14,7 +16,7 @@ use rules::domains::{domain_count, holds_domain};
 
 // What is counted (RULES 13.8): for each right the rights of domain s at place s, and their total at place 16; and the images that did not load. Nothing is counted of an input that
 // is too long.
-#[derive(Drop)]
+#[derive(Clone, Copy)]
 pub struct Counted {
     pub long: bool,
     pub reads: [u32; 17],

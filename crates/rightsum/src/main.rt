@@ -1,5 +1,7 @@
 // `rightsum` (RULES, section 13): reads standard input to its end, or to the first byte past the most that is taken, and writes how many rights its images give. What
 // the text is, `text::rights_text` says and proves.
+#![tactic(auto)]
+
 use libc::{STDIN_FILENO, STDOUT_FILENO};
 
 fn main() {

@@ -3,7 +3,7 @@ ghost use Rattle.std.specs.Prelude.{◌≡◌};
 ghost use Rattle.rules.specs.Domains.{domain_bit, holds, domain_count, with_bit, without_bit, prevailing, giving_domain, is_outside, is_not_lower};
 
 // The domain that prevails in a field, if there is one (RULES 1.8): no number stands in for a domain that is not there.
-#[derive(Drop)]
+#[derive(Clone, Copy)]
 pub enum Prevailing {
     Absent,
     At(u16),
@@ -11,6 +11,7 @@ pub enum Prevailing {
 
 // The number with bit s set alone, 0 where there is no domain s (RULES 1.6). One case a domain, to be read beside figure 2 of Lopriore's
 // paper; bit 0 is the last digit. By the contract and `domain_bit_lem` (proofs/Laws.antt) case s is 2 to the power s.
+#[tactic(auto, unfolding(crate::specs::Domains::domain_bit))]
 pub fn domain_bit(s: u16) -> u16
     ensures { result ≡ domain_bit s }
 {
@@ -67,6 +68,7 @@ pub fn without_bit(field: u16, s: u16) -> u16
 }
 
 // The lowest-numbered domain of the whole field (RULES 1.8).
+#[tactic(auto, unfolding(crate::specs::Domains::prevailing))]
 pub fn prevailing_of(field: u16) -> Prevailing
     ensures { result ≡ prevailing field }
 {
@@ -78,6 +80,7 @@ pub fn prevailing_of(field: u16) -> Prevailing
 
 // The lowest-numbered domain that a field and a local context both hold, through which the field gives its right (RULES 1.17); 16 where they share none, which no
 // call by value reports (`named_lowest`, machine/proofs/Named.antt).
+#[tactic(auto, unfolding(crate::specs::Domains::giving_domain))]
 pub fn giving_domain(field: u16, local: u16) -> u16
     ensures { result ≡ giving_domain field local }
 {

@@ -1,5 +1,7 @@
 // What the registers alone decide: modes, the register record, domain bits, the local context, the prevailing domain,
 // and for each call the number that its conditions give.
+#![tactic(auto)]
+
 pub mod decisions;
 pub mod domains;
 pub mod registers;

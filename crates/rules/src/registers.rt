@@ -6,14 +6,14 @@ ghost use Rattle.rules.specs.Registers.{is_privileged, mode_where, local_context
 use crate::decisions::mask_number;
 
 // The live mode, and a saved or stored one.
-#[derive(Drop)]
+#[derive(Clone, Copy)]
 pub enum Mode {
     User,
     Privileged,
 }
 
 // The register record (RULES 1.3): global context, mask, mode and the pending flag.
-#[derive(Drop)]
+#[derive(Clone, Copy)]
 pub struct Registers {
     pub context: u16,
     pub mask: u16,
@@ -22,7 +22,7 @@ pub struct Registers {
 }
 
 // What the mask command makes of a register record: its number, and the record after it.
-#[derive(Drop)]
+#[derive(Clone, Copy)]
 pub struct Masked {
     pub number: u8,
     pub registers: Registers,
@@ -120,6 +120,7 @@ impl Registers {
 }
 
 // The mask command on a register record, without the check for 1 (RULES 2.11).
+#[tactic(auto, unfolding(crate::specs::Registers::masked_of))]
 pub fn replace_mask(registers: Registers, mask: u16) -> Masked
     ensures { result ≡ masked_of registers mask }
 {

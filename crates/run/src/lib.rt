@@ -1,4 +1,6 @@
 // The run over a whole input (RULES, section 6): the records of calls, their steps, and the bench (section 7).
+#![tactic(auto)]
+
 mod bench;
 mod records;
 

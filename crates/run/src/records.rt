@@ -9,7 +9,7 @@ use image::bytes::word_of;
 use machine::record::{Answered, Call, Domain, Machine, Page, Report, Width};
 
 // A record read: one of the calls, or none of them.
-#[derive(Drop)]
+#[derive(Clone, Copy)]
 pub enum Decoded {
     Known(Call),
     Unknown,

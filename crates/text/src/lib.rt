@@ -1,5 +1,7 @@
 // The text that `pagerun` prints, made into a lent buffer from the answers of the run and what they name (RULES, section 8). Each writer puts its text at a
 // place where the caller has seen that there is room, and answers the place past it.
+#![tactic(auto)]
+
 mod rightsum;
 
 ghost use Rattle.std.specs.Prelude.{◌≡◌, [], ◌∷◌, map, ◌+◌, ◌*◌, ◌-◌, ◌%◌, ◌≤◌, ◌<◌, length, drop, eqb};
