@@ -1,7 +1,7 @@
 -- A history shows the chosen program the same as its own turns alone. Two runs go side by side, the whole history's and the
 -- one of the chosen program's turns alone; another program's turn moves the first only, and leaves the two alike.
 use Prim.Native.Nat.{ℕ, zero, suc, ◌<◌}
-use mathlib.Core.Path.{◌≡◌, refl, sym, ap, ◌∙◌}
+use mathlib.Core.Path.{subst, ◌≡◌, refl, sym, ap, ◌∙◌}
 use mathlib.Core.Logic.{◌≢◌}
 use mathlib.Core.Bool.{Bool, true, false}
 use mathlib.Core.List.{List, [], ◌∷◌, ◌++◌, map}
@@ -239,7 +239,9 @@ module _ (start : Machine) (chosen : ℕ) where
         → (m n : Machine) → Beside m n → (own : Bool) → eqb turn.program chosen ≡ own
         → shown m (later_calls (turn ∷ turns)) ≡ shown n (own_calls (pick own ((turn_calls turn).calls ∷ later_own turns) (later_own turns)))
     one_more turn turns within follows m n b true e =
-        rw (eqb-true turn.program chosen e) (own_turn _ _ follows below turn.commands m n b)
+        let turned : ℕ → List Call = λ program. Enter ∷ Switch program ∷ Return ∷ map command_call turn.commands in
+        let P : ℕ → Type 0 = λ program. shown m (map (made_by program) (turned program) ++ later_calls turns) ≡ shown n (own_calls (turned program ∷ later_own turns)) in
+        subst P (sym (eqb-true turn.program chosen e)) (own_turn _ _ follows below turn.commands m n b)
     one_more turn turns within follows m n b false e =
         other_turn apart small turn.program (eqb-false turn.program chosen e) n _ _ follows within turn.commands m b
 

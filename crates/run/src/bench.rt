@@ -127,8 +127,7 @@ pub fn run_named(input: &[u8], answers: &mut [u8], names: &mut [u32]) -> usize
 }
 
 // The bench's call (RULES 7.1 to 7.5): the run, lent the load's place of names alone, which gets none.
-#[unsafe(no_mangle)]
-pub extern "C" fn bench_run(input: &[u8], answers: &mut [u8]) -> usize
+pub fn bench_run(input: &[u8], answers: &mut [u8]) -> usize
     ensures value { result ≡ length (sent input.now (length answers.old)) }
     ensures answers_after { answers.new ≡ sent input.now (length answers.old) ++ drop (length (sent input.now (length answers.old))) answers.old }
 {
