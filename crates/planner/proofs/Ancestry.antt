@@ -50,9 +50,9 @@ module _ (list : List ℕ) where
   widen m (next h) = next h
   widen m (over way below h) = over (widen m way) (omega arith) h
 
-  join : (m : ℕ) {a k : ℕ} → Through m m k → Through m a m → Through (suc m) a k
-  join m low (next h) = over (widen m low) (omega arith) h
-  join m low (over way below h) = over (join m low way) (omega arith) h
+  join : (m : ℕ) {a k end : ℕ} → Through m m k → Through m a end → end ≡ m → Through (suc m) a k
+  join m low (next h) same = over (widen m low) (omega arith) (rw same at h)
+  join m low (over way below h) same = over (join m low way same) (omega arith) h
 
   split : (m : ℕ) {a k : ℕ} → Through (suc m) a k → Through m a k ⊎ (Through m m k × Through m a m)
   split m (next h) = inl (next h)
@@ -71,7 +71,7 @@ module _ (list : List ℕ) where
       ⊎_elim (λ short. widen m (reaches_way m a k short))
       (λ both.
       let each = and_both (reaches list m m k) (reaches list m a m) both in
-      join m (reaches_way m m k each.0) (reaches_way m a m each.1))
+      join m (reaches_way m m k each.0) (reaches_way m a m each.1) refl)
       (either (reaches list m a k) (reaches list m m k && reaches list m a m) h)
 
   way_reaches : (m a k : ℕ) → Through m a k → reaches list m a k ≡ true
