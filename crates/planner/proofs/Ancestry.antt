@@ -50,9 +50,13 @@ module _ (list : List ℕ) where
   widen m (next h) = next h
   widen m (over way below h) = over (widen m way) (omega arith) h
 
-  join : (m : ℕ) {a k end : ℕ} → Through m m k → Through m a end → end ≡ m → Through (suc m) a k
-  join m low (next h) same = over (widen m low) (omega arith) (rw same at h)
-  join m low (over way below h) same = over (join m low way same) (omega arith) h
+  -- by induction on the upper way, which begins at m
+  join_at : (m n : ℕ) {a k : ℕ} → Through m m k → Through m a n → n ≡ m → Through (suc m) a k
+  join_at m n low (next h) e = over (widen m low) (omega arith) (rw e at h)
+  join_at m n low (over way below h) e = over (join_at m n low way e) (omega arith) h
+
+  join : (m : ℕ) {a k : ℕ} → Through m m k → Through m a m → Through (suc m) a k
+  join m low high = join_at m m low high refl
 
   split : (m : ℕ) {a k : ℕ} → Through (suc m) a k → Through m a k ⊎ (Through m m k × Through m a m)
   split m (next h) = inl (next h)
