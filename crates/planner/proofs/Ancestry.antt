@@ -75,7 +75,7 @@ module _ (list : List ℕ) where
       ⊎_elim (λ short. widen m (reaches_way m a k short))
       (λ both.
       let each = and_both (reaches list m m k) (reaches list m a m) both in
-      join m (reaches_way m m k each.0) (reaches_way m a m each.1) refl)
+      join m (reaches_way m m k each.0) (reaches_way m a m each.1))
       (either (reaches list m a k) (reaches list m m k && reaches list m a m) h)
 
   way_reaches : (m a k : ℕ) → Through m a k → reaches list m a k ≡ true

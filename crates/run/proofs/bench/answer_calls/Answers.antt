@@ -1,20 +1,39 @@
-use Rattle.std.proofs.Common.{rules, ◌≡◌, ◌++◌, map, ◌+◌, ◌-◌, ◌/◌, ◌≤◌, min, length, drop, set, eqb, true, ℕ, ◌*◌, ◌<◌, ◌%◌, Bool, false, nat_lt, List, [], ◌∷◌, slice_index_or, bit_and, bit_or, Fits, w8, w32, w64, Bor, MutBor}
-use Rattle.std.proofs.lemmas.List.Edits.{sets}
-use Rattle.rules.specs.Refusals.{pick}
-use Rattle.machine.specs.Machine.{is_sound}
-use Rattle.image.specs.Bytes.{word_at}
+-- `run::bench::answer_calls` meets its contract: a turn takes the next record, stores its answer and what it names, and leaves a sound machine.
+use mathlib.Core.Path.{◌≡◌, refl, ap, sym, ◌∙◌}
+use mathlib.Core.List.{List, [], map}
+use native.Mathlib.Omega.{arith}
+use borrow.Author.Rules.{rules}
+use lib.ListN.{drop, length-drop, length-set}
+use Rattle.machine.specs.Machine.{is_sound, with_lent}
+use Rattle.machine.specs.declared.record.Answered.{Answered}
 use Rattle.run.specs.Records.{calls_of}
-use Rattle.run.specs.Run.{steps_from, numbers_of, reports_of, loaded_of, sent, sent_reports, name_of}
+use Rattle.run.specs.Run.{steps_from, numbers_of, reports_of, name_of}
+use Rattle.run.proofs.Steps.{next_step, no_record, whole, turn, sound_step, step_sound}
 use Rattle.run.proofs.bench.answer_calls.Goals as goal
 
--- src/bench.rt:85:5
 pub loop-i-preserved : goal.loop-i-preserved
-loop-i-preserved c = ?
+loop-i-preserved c =
+    let l = c.loop-i in
+    let made = c.step-answered.ensures in
+    let m = with_lent l.fields l.saved l.answered.machine in
+    let stepped = whole l.answered.machine made.value made.fields_after made.saved_after ∙ sym (sound_step m _ l.invariant.7) in
+    let next = next_step c.args.input.now m l.at (omega arith) (rw c.decode.ensures at stepped) in
+    let named = c.store_name.ensures in (
+      omega arith,
+      omega arith,
+      length-set l.answers l.i c.step-answered.result.number ∙ l.invariant.2,
+      simp length-set (omega arith),
+      turn l.answers l.i _ _ refl (ap numbers_of next) ∙ l.invariant.4,
+      search rules,
+      search rules,
+      ap (λ (r : Answered). is_sound r.machine) stepped ∙ step_sound m _ l.invariant.7,
+      rw named (length-set l.names l.i _) ∙ l.invariant.8,
+      rw named (turn l.names l.i _ _ refl (ap (λ (steps : List Answered). map name_of (reports_of steps)) next)) ∙ l.invariant.9,
+    )
 
--- src/bench.rt:61:1
-pub returns-clause-answers_after : goal.returns-clause-answers_after
-returns-clause-answers_after c = ?
-
--- src/bench.rt:61:1
-pub returns-clause-names_after : goal.returns-clause-names_after
-returns-clause-names_after c = ?
+pub returns : goal.returns
+unfolding steps_from
+returns c =
+    let input = c.args.input.now in
+    let left : calls_of (drop c.loop-i.at input) ≡ [] = no_record (drop c.loop-i.at input) (simp length-drop (omega arith)) in
+    record { answers_after = rw left at c.loop-i.invariant.4; names_after = rw left at c.loop-i.invariant.9 }

@@ -1,62 +1,62 @@
-use Rattle.std.proofs.Common.{rules, ◌≡◌, ◌+◌, ◌*◌, ◌≤◌, length, get_or, ℕ, ◌-◌, ◌<◌, ◌/◌, ◌%◌, Bool, true, false, nat_eq, nat_lt, List, [], ◌∷◌, ◌++◌, slice_set, bit_and, bit_or, Fits, w8, w32, w64, Bor, MutBor}
-use Rattle.image.specs.Bytes.{word_of}
-use Rattle.machine.specs.Machine.{with_lent}
-use Rattle.machine.specs.Calls.{keeping}
-use Rattle.run.specs.Records.{call_of_kind, unchecked_step_of}
+-- `run::records::call_of_kind` meets its contract: each arm is the table's entry at its kind, and past the arms the table has none.
+use native.Mathlib.Omega.{arith}
+use Rattle.run.specs.Records.{call_of_kind}
+use Rattle.run.proofs.Steps.{unknown_kind}
 use Rattle.run.proofs.records.call_of_kind.Goals as goal
 
--- src/records.rt:26:1
 pub returns-in-1 : goal.returns-in-1
-returns-in-1 c = ?
+unfolding call_of_kind
+returns-in-1 c = rw (c.in-1.is, c.address_of.ensures)
 
--- src/records.rt:26:1
 pub returns-in-2 : goal.returns-in-2
-returns-in-2 c = ?
+unfolding call_of_kind
+returns-in-2 c = rw c.in-2.is
 
--- src/records.rt:26:1
 pub returns-in-3 : goal.returns-in-3
-returns-in-3 c = ?
+unfolding call_of_kind
+returns-in-3 c = rw c.in-3.is
 
--- src/records.rt:26:1
 pub returns-in-4 : goal.returns-in-4
-returns-in-4 c = ?
+unfolding call_of_kind
+returns-in-4 c = rw c.in-4.is
 
--- src/records.rt:26:1
 pub returns-in-5 : goal.returns-in-5
-returns-in-5 c = ?
+unfolding call_of_kind
+returns-in-5 c = rw c.in-5.is
 
--- src/records.rt:26:1
 pub returns-in-6 : goal.returns-in-6
-returns-in-6 c = ?
+unfolding call_of_kind
+returns-in-6 c = rw c.in-6.is
 
--- src/records.rt:26:1
 pub returns-in-7 : goal.returns-in-7
-returns-in-7 c = ?
+unfolding call_of_kind
+returns-in-7 c = rw c.in-7.is
 
--- src/records.rt:26:1
 pub returns-in-8 : goal.returns-in-8
-returns-in-8 c = ?
+unfolding call_of_kind
+returns-in-8 c = rw c.in-8.is
 
--- src/records.rt:26:1
 pub returns-in-9 : goal.returns-in-9
-returns-in-9 c = ?
+unfolding call_of_kind
+returns-in-9 c = rw c.in-9.is
 
--- src/records.rt:26:1
 pub returns-in-10 : goal.returns-in-10
-returns-in-10 c = ?
+unfolding call_of_kind
+returns-in-10 c = rw c.in-10.is
 
--- src/records.rt:26:1
 pub returns-in-11 : goal.returns-in-11
-returns-in-11 c = ?
+unfolding call_of_kind
+returns-in-11 c = rw c.in-11.is
 
--- src/records.rt:26:1
 pub returns-in-12 : goal.returns-in-12
-returns-in-12 c = ?
+unfolding call_of_kind
+returns-in-12 c = rw c.in-12.is
 
--- src/records.rt:26:1
 pub returns-in-13 : goal.returns-in-13
-returns-in-13 c = ?
+unfolding call_of_kind
+returns-in-13 c = rw (c.in-13.is, c.address_of-in-13.ensures)
 
--- src/records.rt:26:1
 pub returns-in_default : goal.returns-in_default
-returns-in_default c = ?
+returns-in_default c =
+    let a = c.args in
+    unknown_kind a.kind a.right a.a a.b (λ none. omega (arith, none, c.in_default))

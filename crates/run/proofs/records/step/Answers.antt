@@ -1,162 +1,85 @@
-use Rattle.std.proofs.Common.{rules, ◌≡◌, ◌+◌, ◌*◌, ◌≤◌, length, get_or, ℕ, ◌-◌, ◌<◌, ◌/◌, ◌%◌, Bool, true, false, nat_eq, nat_lt, List, [], ◌∷◌, ◌++◌, slice_set, bit_and, bit_or, Fits, w8, w32, w64, Bor, MutBor}
-use Rattle.image.specs.Bytes.{word_of}
-use Rattle.machine.specs.Machine.{with_lent}
-use Rattle.machine.specs.Calls.{keeping}
-use Rattle.run.specs.Records.{call_of_kind, unchecked_step_of}
+-- `run::records::step` meets its contract: each arm is the call that the record was decoded to, on the part that is lent to it.
+use mathlib.Core.Path.{refl, sym}
+use mathlib.Core.Bool.{true, false}
+use Rattle.machine.specs.Calls.{checks_of, access_checks, change_checks, effect_of, entered, returned, switched}
+use Rattle.machine.specs.declared.record.Call.TheVariants.{Access, Grant, Revoke, SetMask, Enter, Return, Switch, StoreField, StoreContext, StoreMask, StoreMode, AskViolation}
+use Rattle.machine.proofs.LentParts.{on_neither, on_fields, on_fields_alone, on_stack, access_keeps, change_alone, store_alone}
+use Rattle.run.specs.Records.{step_by}
+use Rattle.run.proofs.Steps.{made}
 use Rattle.run.proofs.records.step.Goals as goal
 
--- src/records.rt:68:9
-pub returns-in_default-clause-value : goal.returns-in_default-clause-value
-returns-in_default-clause-value c = ?
+pub returns-in_default : goal.returns-in_default
+unfolding step_by
+returns-in_default c = rw c.in_default.is (record { value = refl; fields_after = refl; saved_after = refl })
 
--- src/records.rt:68:9
-pub returns-in_default-clause-fields_after : goal.returns-in_default-clause-fields_after
-returns-in_default-clause-fields_after c = ?
+pub returns-in-Access : goal.returns-in-Access
+unfolding checks_of access_checks effect_of
+returns-in-Access c =
+    let answer = made _ _ _ (Access _ _ _) (on_fields _ _ _ (Access _ _ _) (refl, refl) c.access_lent.ensures (sym (access_keeps _ _ _ _))) c.in-Known.is c.in-Access.is in
+    record { value = answer.0; fields_after = answer.1.0; saved_after = answer.1.1 }
 
--- src/records.rt:68:9
-pub returns-in_default-clause-saved_after : goal.returns-in_default-clause-saved_after
-returns-in_default-clause-saved_after c = ?
+pub returns-in-Grant : goal.returns-in-Grant
+unfolding checks_of change_checks effect_of
+returns-in-Grant c =
+    let answer = made _ _ _ (Grant _ _ _) (on_fields_alone _ _ _ (Grant _ _ _) (refl, refl) (change_alone _ true _ _ _) c.change_lent-number.ensures.value c.change_lent-number.ensures.fields_after) c.in-Known.is c.in-Grant.is in
+    record { value = answer.0; fields_after = answer.1.0; saved_after = answer.1.1 }
 
--- src/records.rt:76:13
-pub returns-in-Access-clause-value : goal.returns-in-Access-clause-value
-returns-in-Access-clause-value c = ?
+pub returns-in-Revoke : goal.returns-in-Revoke
+unfolding checks_of change_checks effect_of
+returns-in-Revoke c =
+    let answer = made _ _ _ (Revoke _ _ _) (on_fields_alone _ _ _ (Revoke _ _ _) (refl, refl) (change_alone _ false _ _ _) c.change_lent-number-in-Revoke.ensures.value c.change_lent-number-in-Revoke.ensures.fields_after) c.in-Known.is c.in-Revoke.is in
+    record { value = answer.0; fields_after = answer.1.0; saved_after = answer.1.1 }
 
--- src/records.rt:76:13
-pub returns-in-Access-clause-fields_after : goal.returns-in-Access-clause-fields_after
-returns-in-Access-clause-fields_after c = ?
+pub returns-in-SetMask : goal.returns-in-SetMask
+unfolding checks_of effect_of
+returns-in-SetMask c =
+    let answer = made _ _ _ (SetMask _) (on_neither _ _ _ (SetMask _) (refl, refl) refl c.set_mask_unchecked.ensures) c.in-Known.is c.in-SetMask.is in
+    record { value = answer.0; fields_after = answer.1.0; saved_after = answer.1.1 }
 
--- src/records.rt:76:13
-pub returns-in-Access-clause-saved_after : goal.returns-in-Access-clause-saved_after
-returns-in-Access-clause-saved_after c = ?
+pub returns-in-Enter : goal.returns-in-Enter
+unfolding checks_of effect_of entered
+returns-in-Enter c =
+    let answer = made _ _ _ Enter (on_stack _ _ _ Enter (refl, refl) c.enter_lent.ensures.value c.enter_lent.ensures.saved_after) c.in-Known.is c.in-Enter.is in
+    record { value = answer.0; fields_after = answer.1.0; saved_after = answer.1.1 }
 
--- src/records.rt:80:13
-pub returns-in-Grant-clause-value : goal.returns-in-Grant-clause-value
-returns-in-Grant-clause-value c = ?
+pub returns-in-Return : goal.returns-in-Return
+unfolding checks_of effect_of returned
+returns-in-Return c =
+    let answer = made _ _ _ Return (on_stack _ _ _ Return (refl, refl) c.leave_lent.ensures.value c.leave_lent.ensures.saved_after) c.in-Known.is c.in-Return.is in
+    record { value = answer.0; fields_after = answer.1.0; saved_after = answer.1.1 }
 
--- src/records.rt:80:13
-pub returns-in-Grant-clause-fields_after : goal.returns-in-Grant-clause-fields_after
-returns-in-Grant-clause-fields_after c = ?
+pub returns-in-Switch : goal.returns-in-Switch
+unfolding checks_of effect_of switched
+returns-in-Switch c =
+    let answer = made _ _ _ (Switch _) (on_stack _ _ _ (Switch _) (refl, refl) c.switch_lent.ensures.value c.switch_lent.ensures.saved_after) c.in-Known.is c.in-Switch.is in
+    record { value = answer.0; fields_after = answer.1.0; saved_after = answer.1.1 }
 
--- src/records.rt:80:13
-pub returns-in-Grant-clause-saved_after : goal.returns-in-Grant-clause-saved_after
-returns-in-Grant-clause-saved_after c = ?
+pub returns-in-StoreField : goal.returns-in-StoreField
+unfolding checks_of effect_of
+returns-in-StoreField c =
+    let answer = made _ _ _ (StoreField _ _ _) (on_fields_alone _ _ _ (StoreField _ _ _) (refl, refl) (store_alone _ _ _ _) c.store_lent-number.ensures.value c.store_lent-number.ensures.fields_after) c.in-Known.is c.in-StoreField.is in
+    record { value = answer.0; fields_after = answer.1.0; saved_after = answer.1.1 }
 
--- src/records.rt:88:13
-pub returns-in-Revoke-clause-value : goal.returns-in-Revoke-clause-value
-returns-in-Revoke-clause-value c = ?
+pub returns-in-StoreContext : goal.returns-in-StoreContext
+unfolding checks_of effect_of
+returns-in-StoreContext c =
+    let answer = made _ _ _ (StoreContext _) (on_neither _ _ _ (StoreContext _) (refl, refl) refl c.store_context_unchecked.ensures) c.in-Known.is c.in-StoreContext.is in
+    record { value = answer.0; fields_after = answer.1.0; saved_after = answer.1.1 }
 
--- src/records.rt:88:13
-pub returns-in-Revoke-clause-fields_after : goal.returns-in-Revoke-clause-fields_after
-returns-in-Revoke-clause-fields_after c = ?
+pub returns-in-StoreMask : goal.returns-in-StoreMask
+unfolding checks_of effect_of
+returns-in-StoreMask c =
+    let answer = made _ _ _ (StoreMask _) (on_neither _ _ _ (StoreMask _) (refl, refl) refl c.store_mask_unchecked.ensures) c.in-Known.is c.in-StoreMask.is in
+    record { value = answer.0; fields_after = answer.1.0; saved_after = answer.1.1 }
 
--- src/records.rt:88:13
-pub returns-in-Revoke-clause-saved_after : goal.returns-in-Revoke-clause-saved_after
-returns-in-Revoke-clause-saved_after c = ?
+pub returns-in-StoreMode : goal.returns-in-StoreMode
+unfolding checks_of effect_of
+returns-in-StoreMode c =
+    let answer = made _ _ _ (StoreMode _) (on_neither _ _ _ (StoreMode _) (refl, refl) refl c.store_mode_unchecked.ensures) c.in-Known.is c.in-StoreMode.is in
+    record { value = answer.0; fields_after = answer.1.0; saved_after = answer.1.1 }
 
--- src/records.rt:95:13
-pub returns-in-SetMask-clause-value : goal.returns-in-SetMask-clause-value
-returns-in-SetMask-clause-value c = ?
-
--- src/records.rt:95:13
-pub returns-in-SetMask-clause-fields_after : goal.returns-in-SetMask-clause-fields_after
-returns-in-SetMask-clause-fields_after c = ?
-
--- src/records.rt:95:13
-pub returns-in-SetMask-clause-saved_after : goal.returns-in-SetMask-clause-saved_after
-returns-in-SetMask-clause-saved_after c = ?
-
--- src/records.rt:98:13
-pub returns-in-Enter-clause-value : goal.returns-in-Enter-clause-value
-returns-in-Enter-clause-value c = ?
-
--- src/records.rt:98:13
-pub returns-in-Enter-clause-fields_after : goal.returns-in-Enter-clause-fields_after
-returns-in-Enter-clause-fields_after c = ?
-
--- src/records.rt:98:13
-pub returns-in-Enter-clause-saved_after : goal.returns-in-Enter-clause-saved_after
-returns-in-Enter-clause-saved_after c = ?
-
--- src/records.rt:101:13
-pub returns-in-Return-clause-value : goal.returns-in-Return-clause-value
-returns-in-Return-clause-value c = ?
-
--- src/records.rt:101:13
-pub returns-in-Return-clause-fields_after : goal.returns-in-Return-clause-fields_after
-returns-in-Return-clause-fields_after c = ?
-
--- src/records.rt:101:13
-pub returns-in-Return-clause-saved_after : goal.returns-in-Return-clause-saved_after
-returns-in-Return-clause-saved_after c = ?
-
--- src/records.rt:104:13
-pub returns-in-Switch-clause-value : goal.returns-in-Switch-clause-value
-returns-in-Switch-clause-value c = ?
-
--- src/records.rt:104:13
-pub returns-in-Switch-clause-fields_after : goal.returns-in-Switch-clause-fields_after
-returns-in-Switch-clause-fields_after c = ?
-
--- src/records.rt:104:13
-pub returns-in-Switch-clause-saved_after : goal.returns-in-Switch-clause-saved_after
-returns-in-Switch-clause-saved_after c = ?
-
--- src/records.rt:108:13
-pub returns-in-StoreField-clause-value : goal.returns-in-StoreField-clause-value
-returns-in-StoreField-clause-value c = ?
-
--- src/records.rt:108:13
-pub returns-in-StoreField-clause-fields_after : goal.returns-in-StoreField-clause-fields_after
-returns-in-StoreField-clause-fields_after c = ?
-
--- src/records.rt:108:13
-pub returns-in-StoreField-clause-saved_after : goal.returns-in-StoreField-clause-saved_after
-returns-in-StoreField-clause-saved_after c = ?
-
--- src/records.rt:115:13
-pub returns-in-StoreContext-clause-value : goal.returns-in-StoreContext-clause-value
-returns-in-StoreContext-clause-value c = ?
-
--- src/records.rt:115:13
-pub returns-in-StoreContext-clause-fields_after : goal.returns-in-StoreContext-clause-fields_after
-returns-in-StoreContext-clause-fields_after c = ?
-
--- src/records.rt:115:13
-pub returns-in-StoreContext-clause-saved_after : goal.returns-in-StoreContext-clause-saved_after
-returns-in-StoreContext-clause-saved_after c = ?
-
--- src/records.rt:118:13
-pub returns-in-StoreMask-clause-value : goal.returns-in-StoreMask-clause-value
-returns-in-StoreMask-clause-value c = ?
-
--- src/records.rt:118:13
-pub returns-in-StoreMask-clause-fields_after : goal.returns-in-StoreMask-clause-fields_after
-returns-in-StoreMask-clause-fields_after c = ?
-
--- src/records.rt:118:13
-pub returns-in-StoreMask-clause-saved_after : goal.returns-in-StoreMask-clause-saved_after
-returns-in-StoreMask-clause-saved_after c = ?
-
--- src/records.rt:121:13
-pub returns-in-StoreMode-clause-value : goal.returns-in-StoreMode-clause-value
-returns-in-StoreMode-clause-value c = ?
-
--- src/records.rt:121:13
-pub returns-in-StoreMode-clause-fields_after : goal.returns-in-StoreMode-clause-fields_after
-returns-in-StoreMode-clause-fields_after c = ?
-
--- src/records.rt:121:13
-pub returns-in-StoreMode-clause-saved_after : goal.returns-in-StoreMode-clause-saved_after
-returns-in-StoreMode-clause-saved_after c = ?
-
--- src/records.rt:124:13
-pub returns-in-AskViolation-clause-value : goal.returns-in-AskViolation-clause-value
-returns-in-AskViolation-clause-value c = ?
-
--- src/records.rt:124:13
-pub returns-in-AskViolation-clause-fields_after : goal.returns-in-AskViolation-clause-fields_after
-returns-in-AskViolation-clause-fields_after c = ?
-
--- src/records.rt:124:13
-pub returns-in-AskViolation-clause-saved_after : goal.returns-in-AskViolation-clause-saved_after
-returns-in-AskViolation-clause-saved_after c = ?
+pub returns-in-AskViolation : goal.returns-in-AskViolation
+unfolding checks_of effect_of
+returns-in-AskViolation c =
+    let answer = made _ _ _ AskViolation (on_neither _ _ _ AskViolation (refl, refl) refl c.ask_violation_unchecked.ensures) c.in-Known.is c.in-AskViolation.is in
+    record { value = answer.0; fields_after = answer.1.0; saved_after = answer.1.1 }
