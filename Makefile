@@ -60,6 +60,8 @@ times:
 	$(writable)
 	@echo "proving every crate from nothing, one at a time .."
 	@tools/progress.sh times rt all verdict --jobs 1
+	@awk '/^== .*, [0-9]+ s$$/ { printf "%-12s %4d s\n", substr($$2, 1, length($$2) - 1), $$3 - before; before = $$3 } \
+		END { printf "%-12s %4d s\n", "all", before }' target/times.log
 
 test:
 	$(call need,rt bash gcc cargo python3)
