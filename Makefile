@@ -3,9 +3,9 @@
 #   make run     builds pagerun, all crates below it proved first, and runs the sample node   (rt)
 #   make rights  counts the rights over all images of a folder: make rights IMAGES=FOLDER     (rt)
 #   make lib     builds the bench's static library, proved first, where a source has changed  (rt)
-#   make prove   removes target/ and proves every crate; no must-fail edits, no tests         (rt)
+#   make prove   proves every crate from nothing; no must-fail edits, no programs, no tests   (rt)
 #   make times   the same, one crate at a time, and prints the time that each takes           (rt)
-#   make test    the gate: removes target/, proofs, must-fail edits, programs, tests          (rt, bash, gcc, cargo, python3)
+#   make test    the gate: proofs, must-fail edits, programs, tests                           (rt, bash, gcc, cargo, python3)
 #   make speed   compares the library, writer, planner, least mask and rights with plain C    (rt, gcc, valgrind)
 
 .PHONY: help run rights lib prove times test speed
@@ -18,26 +18,26 @@ help:
 missing = $(strip $(foreach tool,$(1),$(if $(shell command -v $(tool) 2>/dev/null),,$(tool))))
 need = $(if $(call missing,$(1)),$(error missing: $(call missing,$(1)). README.md, "Try it", says what each tool is for))
 
-# Stops where one of the directories cannot be written. Where rt starts from nothing it removes target/ itself, and so writes to . too.
-writable = @mkdir -p target 2>/dev/null; for d in $(1); do [ -d $$d ] && [ -w $$d ] || \
-	{ echo "cannot write $(CURDIR)/target, where all that is built goes" >&2; exit 1; }; done
+# Stops where what is built cannot be written: into target/, and by rt into the folder out/ of each crate.
+writable = @mkdir -p target 2>/dev/null; for d in target crates/*; do [ -d $$d ] && [ -w $$d ] || \
+	{ echo "cannot write $(CURDIR)/$$d, where what is built goes" >&2; exit 1; }; done
 
 run:
 	$(call need,rt)
-	$(call writable,target)
+	$(writable)
 	@echo "building pagerun; every crate that it needs is proved first .."
-	@tools/progress.sh run rt check pagerun
+	@tools/progress.sh run tools/program.sh pagerun
 	@echo "the sample node:"
-	@target/bin/pagerun < crates/pagerun/stdin
+	@crates/pagerun/out/pagerun < crates/pagerun/stdin
 
 # The program alone stands on standard output, so that what it prints can be kept.
 rights:
 	$(call need,rt)
-	$(call writable,target)
+	$(writable)
 	$(if $(IMAGES),,$(error which images? make rights IMAGES=FOLDER))
-	@tools/progress.sh rights rt check rightsum >&2
+	@tools/progress.sh rights tools/program.sh rightsum >&2
 	@tools/pairs.sh "$(IMAGES)" >target/site
-	@target/bin/rightsum <target/site
+	@crates/rightsum/out/rightsum <target/site
 
 lib: target/staticlib/librun.a
 	@echo "target/staticlib/librun.a, to be used with include/bench.h"
@@ -45,28 +45,28 @@ lib: target/staticlib/librun.a
 # Directories are among the sources: their time shows that a file has gone.
 target/staticlib/librun.a: crates.txt $(shell find crates/*/src crates/*/specs crates/*/proofs)
 	$(call need,rt)
-	$(call writable,target)
+	$(writable)
 	@echo "building the static library of the bench; every crate that it needs is proved first .."
-	@tools/progress.sh lib rt staticlib run
+	@tools/progress.sh lib tools/library.sh
 
 prove:
 	$(call need,rt)
-	$(call writable,. target)
+	$(writable)
 	@echo "proving every crate from nothing .."
-	@tools/progress.sh prove rt prove
+	@tools/progress.sh prove rt all verdict
 
 times:
 	$(call need,rt)
-	$(call writable,. target)
+	$(writable)
 	@echo "proving every crate from nothing, one at a time .."
-	@RT_JOBS=1 tools/progress.sh times rt prove
-	@awk '/^rt: .* proved \([0-9]+ s\)$$/ { s = substr($$4, 2); all += s; printf "%-12s %4d s\n", $$2, s } \
-		END { printf "%-12s %4d s\n", "all", all }' target/times.log
+	@tools/progress.sh times rt all verdict --jobs 1
+	@awk '/^== .*, [0-9]+ s$$/ { printf "%-12s %4d s\n", substr($$2, 1, length($$2) - 1), $$3 - before; before = $$3 } \
+		END { printf "%-12s %4d s\n", "all", before }' target/times.log
 
 test:
 	$(call need,rt bash gcc cargo python3)
-	$(call writable,. target)
-	@echo "running the gate: proofs from nothing, must-fail edits, programs, tests .."
+	$(writable)
+	@echo "running the gate: proofs, must-fail edits, programs, tests .."
 	@.ci/run
 
 speed:

@@ -1,33 +1,54 @@
 #!/usr/bin/env python3
 """Says whether every function of the crates states its outcome, which the prover then holds it to.
 
-A program's `fn main()` is left out: no contract can say what a program writes. Exit status 1 where a function states none.
+A program's `fn main(rt: HostRuntime)` is left out: no contract can say what a program writes. Exit status 1 where a function states none.
 """
 import pathlib
 import re
 import sys
 
-FUNCTION = re.compile(r'^\s*(?:pub\s+)?(?:extern\s+"C"\s+)?fn\s+(\w+)')
+FUNCTION = re.compile(r'^[ \t]*(?:pub(?:\([\w ]+\))?\s+)?(?:(?:const|unsafe|extern)\s+)*fn\s+(\w+)', re.M)
+# What stands between a signature, or a clause, and the brace of the next clause: `ensures`, `ensures kept`, `requires*`, `ghost g:`.
+CLAUSE = re.compile(r'(?<!\w)(requires|ensures|ghost)\b\*?\s*\w*\s*:?\s*$')
+
+
+def blanked(text):
+    """The text with blanks for its comments, strings and characters, in which a brace is none of the code's."""
+    return re.sub(r"//[^\n]*|b?\"(?:\\.|[^\"\\])*\"|b?'(?:\\.|[^'\\\n])'", lambda found: re.sub(r'[^\n]', ' ', found[0]), text)
+
+
+def kinds(text, at):
+    """The kinds of the clauses of a function, whose name ends at this place."""
+    found, start, depth, inside = [], at, 0, None
+    for place in range(at, len(text)):
+        sign = text[place]
+        if sign in '([{':
+            if depth == 0 and sign == '{':
+                inside = CLAUSE.search(text, start, place)
+                if not inside:
+                    return found
+                found.append(inside[1])
+            depth += 1
+        elif sign in ')]}':
+            depth -= 1
+            if depth == 0 and sign == '}':
+                start = place + 1
+        elif sign == ';' and depth == 0:
+            return found
+    return found
 
 
 def main():
     functions = 0
     silent = []
     for source in sorted(pathlib.Path('crates').glob('*/src/**/*.rt')):
-        lines = source.read_text(encoding='utf-8').split('\n')
-        for number, line in enumerate(lines):
-            found = FUNCTION.match(line)
-            if not found or found.group(1) == 'main':
+        text = blanked(source.read_text(encoding='utf-8'))
+        for function in FUNCTION.finditer(text):
+            if function[1] == 'main':
                 continue
             functions += 1
-            # The clauses stand between the signature and the line that opens the body alone.
-            clauses = []
-            for later in lines[number:]:
-                if re.match(r'^\s*\{\s*$', later):
-                    break
-                clauses.append(later)
-            if not any(re.match(r'^\s*ensures\b', clause) for clause in clauses):
-                silent.append(f'{source}:{number + 1}: {found.group(1)}')
+            if 'ensures' not in kinds(text, function.end()):
+                silent.append(f'{source}:{text.count(chr(10), 0, function.start(1)) + 1}: {function[1]}')
     for place in silent:
         print(f'{place} states no outcome')
     print(f'contracts: {functions} functions, {len(silent)} without a stated outcome')

@@ -1,14 +1,16 @@
 #!/usr/bin/env python3
 """Reads the repository's documents and says where they name something that is not there, or show what is not so.
 
-Usage: documents.py [ROOT]   (ROOT is the repository's root, by default the current folder; after `rt check`, which builds target/bin)
+Usage: documents.py [ROOT]   (ROOT is the repository's root, by default the current folder; after `rt ci`, which builds the programs)
 
-The documents are README.md, docs/*.md, docs/landings/*.md and tests/oracle/README.md. A fault is:
+The documents are README.md, docs/*.md, docs/landings/*.md and tests/oracle/README.md. docs/PORT.md is none of them: it sets the text of an
+older Rattle beside today's. A fault is:
 
 paths       A file, folder or glob that is not there: in backticks, in a link, or written as a path. A path starts at the root, below
             crates/, or in the document's own folder; one that starts nowhere of these, or is a file's name alone, may end a path anywhere.
             `machine/proofs/Laws` is Laws.antt, `rules/each_helper_once` an edit of that crate. A part in capitals (`crates/NAME/src`)
-            stands for any name. What is below target/ is built: only the crate's name in target/bin/NAME is looked up.
+            stands for any name. What is below target/ and below a crate's out/ is built: of target/staticlib/libNAME.a the crate is looked
+            up, of crates/NAME/out/FILE also whether FILE is named after it. There is no target/bin.
             A heading that is named as 'docs/FILE.md, "Heading"' has to start so. Both also where the sources name documents.
 names       A name in backticks that is no word of the sources (crates, include, tests, tools, Makefile, .ci/run; comments aside, and
             file and folder names count). Of `crate::name` the name is looked for in that crate, of `Type::name` in a file that has
@@ -23,8 +25,8 @@ paragraphs  A paragraph or section of docs/RULES.md that is not there, also in c
 targets     `make NAME` in backticks, and the Makefile has no such target.
 transcripts A code block, indented by four spaces or fenced, whose first line starts with `$ `, and that prints something else. Each such
             line is a command (a backslash at its end continues it), all of a block are run in one bash from the root in at most
-            60 seconds, and what stands below is what it prints, standard error too. A line `..` stands for any lines. What removes
-            target/ is not run, nor is a block that needs a program of target/bin that is not built: both are faults.
+            60 seconds, and what stands below is what it prints, standard error too. A line `..` stands for any lines. What runs the gate
+            or proves from nothing is not run, nor is a block that needs a program or a library that is not built: both are faults.
 excerpts    A code block of README.md that starts as a definition does, and of which a paragraph stands in no file of definitions.
 lines       A line of more than 120 characters, or a row of a table of 200 or more.
 landings    A note of docs/landings with more than 600 words.
@@ -46,18 +48,18 @@ import sys
 WIDTH, ROW, WORDS, SECONDS = 120, 200, 600, 60
 
 # Files that are named and are the toolchain's: its guides, and the text of its libraries.
-FOREIGN_FILES = {'START-HERE.md', 'DESIGN.md', 'logic/Lib/Seq.antt'}
+FOREIGN_FILES = {'START-HERE.md', 'FIRST_PROOFS.md', 'SHORTER_PROOFS.md', 'CONTRACTS.md', 'LANGUAGE.md', 'UNSAFE.md', 'logic/Lib/Seq.antt'}
 # Names that are no words of the sources: programs of the system; words of the line in which the prover says what it proved. Words of the
 # language and names of its libraries (`ensures`, `bitAnd`) need no entry, since the sources use them; nor do commands (`rt ci`), of which
 # only what is clearly a name is looked up.
 FOREIGN_NAMES = {'clang', 'git', 'hexdump', 'nm', 'objdump', 'od', 'wc', 'xxd',
-                 'axioms', 'cache', 'foreign', 'holes', 'incremental', 'libraries-built', 'pinned'}
+                 'axioms', 'batches', 'bugs', 'foreign', 'hides', 'holes', 'incremental', 'libraries-built', 'logic-built', 'native', 'statements'}
 COUNTED = (r'(?:misreadings|(?:must-fail )?edits|law files|functions|lines|clauses|crates|theorems|laws|definitions|entries'
            r'|stored (?:cases|plans)|tests)')
 SUFFIX = r'(?:antt|rt|rs|md|c|h|sh|py|txt|edit|toml|expected)'
 # Commands that start from nothing, or start this test again.
-REMOVES = re.compile(r'(?m)(?:^|[;&|(] *)(?:\w+=\S* +)*'
-                     r'(?:make +(?:-\S+ +)*(?:test|prove|times)\b|rt +(?:ci|prove)\b|(?:(?:ba)?sh +)?(?:\./)?\.ci/run\b)')
+WHOLE = re.compile(r'(?m)(?:^|[;&|(] *)(?:\w+=\S* +)*'
+                   r'(?:make +(?:-\S+ +)*(?:test|prove|times)\b|rt +(?:ci|verdict|all)\b|(?:(?:ba)?sh +)?(?:\./)?\.ci/run\b)')
 
 SPAN = re.compile(r'(`+)(.+?)(?<!`)\1(?!`)', re.S)
 LINK = re.compile(r'\]\(<?([^()\s<>]+)>?\)')
@@ -168,8 +170,9 @@ class Sources:
         self.root, self.paths, self.words_in, self.declared_in, self.comments = root, set(), {}, {}, {}
         own = {'tests/documents.py', 'tests/documents_test.py'}
         for folder, folders, files in os.walk(root):
-            folders[:] = sorted(name for name in folders if name not in ('.git', 'target', '__pycache__'))
             here = pathlib.Path(folder).relative_to(root)
+            built = ('.git', 'target', '__pycache__', *(['out'] if here.parts[:1] == ('crates',) else []))
+            folders[:] = sorted(name for name in folders if name not in built)
             self.paths.update((here / name).as_posix() for name in folders + files)
             for name in sorted(files):
                 path = here / name
@@ -218,8 +221,14 @@ class Sources:
         if name in FOREIGN_FILES:
             return True
         if name == 'target' or name.startswith('target/'):
-            built = re.match(r'target/bin/([\w-]+)$', name) or re.match(r'target/staticlib/lib([\w-]+)\.a$', name)
-            return not built or built[1] in self.crates
+            built = re.match(r'target/staticlib/lib([\w-]+)\.a$', name)
+            return built[1] in self.crates if built else not name.startswith('target/bin')
+        built = re.fullmatch(r'(?:crates/)?([\w*-]+)/out(?:/([^/]+)(/.*)?)?', name)
+        if built:
+            # crates/NAME/out/NAME stands for that of any crate.
+            crate, file, inside = built.groups()
+            named = not file or inside or re.fullmatch(rf'(?:lib)?{re.escape(crate)}(?:_tests|\.by-rattle|\.stamp|\.a)?|stdout(?:\.by-rattle)?', file)
+            return bool(named or file in ('incremental', 'rlib')) and (crate in self.crates or crate in ('NAME', '*'))
         # The documents' own names are in capitals too.
         return self.stands(name, folder) or self.stands(re.sub(r'(?<![\w.-])[A-Z]{2,}(?=/|$|\.(?!md))', '*', name), folder)
 
@@ -250,8 +259,8 @@ class Sources:
 
     def has_name(self, name):
         """Whether a name is there: a word, a crate's or a type's, a value's field."""
-        # What the prover makes of a function's code is named by `tie`.
-        if name in FOREIGN_NAMES or name.startswith('tie.'):
+        # What the prover makes of a function's code is named by `goal` and, in proofs by hand, by `tie`.
+        if name in FOREIGN_NAMES or name.startswith(('goal.', 'tie.')):
             return True
         if '::' in name:
             return self.has_qualified(name.split('::'))
@@ -473,15 +482,16 @@ class Check:
         commands = commands_of(block)
         text = '\n'.join(command for _, command, _ in commands)
         # A block may build the library itself.
-        built = r'target/bin/[\w-]+' if re.search(r'\bmake lib\b|\brt staticlib\b', text) else r'target/(?:bin|staticlib)/[\w.-]+'
+        built = r'crates/[\w-]+/out/[\w.-]+' if re.search(r'\bmake lib\b|\btools/library\.sh\b', text) else \
+            r'crates/[\w-]+/out/[\w.-]+|target/staticlib/[\w.-]+'
         missing = sorted({name for name in re.findall(built, text) if not (self.root / name).exists()})
         for name in missing:
-            builder = 'rt check' if name.startswith('target/bin/') else 'make lib'
+            builder = 'make lib' if name.startswith('target/') else 'rt ci'
             self.fault(document.name, block.line, f'{name} is not built, so that this transcript is not run: `{builder}` builds it')
-        removes = REMOVES.search(text)
-        if removes:
-            self.fault(document.name, block.line, f'`{removes[0].strip()}` removes target/ or runs the gate: this transcript is not run')
-        if missing or removes:
+        whole = WHOLE.search(text)
+        if whole:
+            self.fault(document.name, block.line, f'`{whole[0].strip()}` runs the gate or proves from nothing: this transcript is not run')
+        if missing or whole:
             return
         printed, late = run_in_order(self.root, [command for _, command, _ in commands])
         for (line, command, due), said in zip(commands, printed + [None] * (len(commands) - len(printed))):
@@ -591,7 +601,7 @@ def difference(due, said):
 def documents_in(root):
     """The documents of the repository, in order."""
     paths = [root / 'README.md', *sorted(root.glob('docs/*.md')), *sorted(root.glob('docs/landings/*.md')), root / 'tests/oracle/README.md']
-    return [Document(root, path) for path in paths if path.exists()]
+    return [Document(root, path) for path in paths if path.exists() and path != root / 'docs/PORT.md']
 
 
 def main():

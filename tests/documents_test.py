@@ -20,7 +20,8 @@ TREE = {
     'tests/oracle/README.md': '# Oracle\n\nIts parts stand in `src/cases`.\n',
     'tests/oracle/src/cases/named.rs': '// RULES 2.1\nfn main() { run("cases-input") }\n',
     'tests/refused.py': '',
-    'crates.txt': 'machine:\nkernel: machine io\n',
+    'docs/PORT.md': 'Of an older Rattle: `gone_name`, crates/gone, 12 functions, ' + 'x' * 121 + '\n',
+    'crates.txt': 'machine:\nkernel: machine\n',
     'crates/machine/src/lib.rt': '// A machine (RULES 1.1,\n// 1.2).\npub struct Machine { pub number: u8 }\n'
                                  'pub fn zero() -> Machine { .. } // never ghostly_name\npub fn access_lent(right: u8) { .. }\n',
     'crates/machine/specs/Calls.antt': '-- RULES, section 2\nuse lib.Bits.{bitAnd}\nabbrev pub callOf : Machine → Machine\n',
@@ -31,7 +32,7 @@ TREE = {
     'tools/progress.sh': 'echo "$1"\n',
     '.ci/run': 'rt ci\n',
     'Makefile': '.PHONY: run lib\nname := value\nrun:\n\techo run\nlib: target/staticlib/libkernel.a\n\techo lib\n',
-    'target/bin/kernel': '#!/bin/sh\necho "load 0"; echo "1 0 -"; echo "2 9 -"; echo "3 8 -"; echo late >&2\n',
+    'crates/kernel/out/kernel': '#!/bin/sh\necho "load 0"; echo "1 0 -"; echo "2 9 -"; echo "3 8 -"; echo late >&2\n',
 }
 
 SOUND = [
@@ -39,13 +40,13 @@ SOUND = [
     'A file `docs/RULES.md`, docs/KERNEL.md, one below crates, machine/specs/Calls.antt, a name alone, Laws.antt.',
     'A module machine/proofs/Laws, an edit `machine/each_call_once`, a glob `crates/*/specs`.',
     'Any crate, `crates/NAME/must-fail/NAME.edit`; folders `tests/`, `crates/machine`; a file\'s end, specs/Calls.antt.',
-    'Built are `target/bin/kernel`, target/input and `target/staticlib/libkernel.a`.',
+    'Built are `crates/kernel/out/kernel`, crates/kernel/out, target/input and\n`target/staticlib/libkernel.a`; any `crates/NAME/out/NAME`.',
     'No path: and/or, 1/2, READ/WRITE, (n - 2) / 6, https://example.org/gone/file.md, `00 01 / 02`.',
     'The toolchain\'s guide `START-HERE.md`.',
     'Links to [a page](docs/KERNEL.md), [a turn](docs/KERNEL.md#a-turn), [there](https://example.org/gone.md),\n[here](#a-core).',
     'A heading: docs/KERNEL.md, "A turn", and `docs/KERNEL.md`, "For kernels".',
     # names
-    'Names `callOf`, `refused-zero`, `x\'`, `Machine::zero`, `machine::access_lent`, `bitAnd`, `kernel`, `io`.',
+    'Names `callOf`, `refused-zero`, `x\'`, `Machine::zero`, `machine::access_lent`, `bitAnd`, `kernel`, `goal.returns`.',
     'Fields `answer.number`, `Machine.number`, `answer.0`; calls `access_lent(&mut fields, ..)`, `machine::zero()`.',
     'Forms `refused-..`, `..-zero`, `access_..`.',
     'Code `rt check kernel`, `let x = callOf y`, `-mllvm -gone-option=2`, `logic-built=trusted`, `oracle cases-input`.',
@@ -68,11 +69,11 @@ SOUND = [
     'Counted at T-01:\n\n| file | lines |\n|---|---|\n| `Calls.antt` | 12 |',
     '| kind | lines |\n|---|---|\n| a | those of a call |',
     # transcripts, and other blocks
-    '    $ target/bin/kernel\n    load 0\n    1 0 -\n    2 9 -\n    3 8 -\n    late',
-    '    $ target/bin/kernel\n    load 0\n    ..\n    3 8 -\n    late\n    $ x=3\n    $ echo "$x"\n    3',
+    '    $ crates/kernel/out/kernel\n    load 0\n    1 0 -\n    2 9 -\n    3 8 -\n    late',
+    '    $ crates/kernel/out/kernel\n    load 0\n    ..\n    3 8 -\n    late\n    $ x=3\n    $ echo "$x"\n    3',
     '    $ (exit 3)\n    $ echo $?\n    3',
-    '```\n$ target/bin/kernel 2>&1 | head -n 2\nload 0\n1 0 -\n$ printf "no newline"; cd docs\nno newline\n$ ls RULES.md\nRULES.md\n```',
-    '```sh\n$ echo one \\\n    two\none two\n$ printf "a\\n\\nb\\n"\na\n\nb\n$ target/bin/kernel\n..\n```',
+    '```\n$ crates/kernel/out/kernel 2>&1 | head -n 2\nload 0\n1 0 -\n$ printf "no newline"; cd docs\nno newline\n$ ls RULES.md\nRULES.md\n```',
+    '```sh\n$ echo one \\\n    two\none two\n$ printf "a\\n\\nb\\n"\na\n\nb\n$ crates/kernel/out/kernel\n..\n```',
     '    some_gone_name crates/gone\n    make gone',
     '```\nsome_gone_name in crates/gone, 12 functions\n```',
     # excerpts
@@ -90,7 +91,10 @@ FAULTY = [
     ('A folder `crates/gone/`.', 'there is no crates/gone/'),
     ('A glob crates/*/gone/*.antt.', 'there is no crates/*/gone/*.antt'),
     ('An edit `machine/gone_edit`.', 'there is no machine/gone_edit'),
-    ('A program `target/bin/gone`.', 'there is no target/bin/gone'),
+    ('A program `crates/gone/out/gone`.', 'there is no crates/gone/out/gone'),
+    ('A program `crates/kernel/out/gone`.', 'there is no crates/kernel/out/gone'),
+    ('A program of the older Rattle, `target/bin/kernel`.', 'there is no target/bin/kernel'),
+    ('A library target/staticlib/libgone.a.', 'there is no target/staticlib/libgone.a'),
     ('Any `crates/NAME/gone`.', 'there is no crates/NAME/gone'),
     ('In a command: `cat docs/GONE.md crates.txt`.', 'there is no docs/GONE.md'),
     ('See [a page](docs/GONE.md).', 'the link leads to docs/GONE.md'),
@@ -121,17 +125,18 @@ FAULTY = [
     ('As 3.1 of RULES says.', 'RULES has no 3.1'),
     ('Say `make gone`.', 'the Makefile has no target gone'),
     ('Say `make name`.', 'the Makefile has no target name'),
-    ('    $ target/bin/kernel\n    load 0\n    ..\n    3 9 -\n    late', 'prints something else', 3),
-    ('    $ target/bin/kernel\n    load 0\n    1 0 0\n    ..', 'prints something else: "1 0 -", where the document has "1 0 0"', 3),
+    ('    $ crates/kernel/out/kernel\n    load 0\n    ..\n    3 9 -\n    late', 'prints something else', 3),
+    ('    $ crates/kernel/out/kernel\n    load 0\n    1 0 0\n    ..', 'prints something else: "1 0 -", where the document has "1 0 0"', 3),
     ('    $ echo one', 'prints something else: "one", where the document has nothing'),
     ('    $ true\n    one', 'prints something else: nothing, where the document has "one"', 3),
     ('```\n$ x=1\n$ echo $x\n2\n```', 'prints something else: "1", where the document has "2"', 5),
     ('    $ exit 3\n    $ true', '`exit 3` did not come to its end', 3),
     ('    $ sleep 30', '`sleep 30` did not end within'),
-    ('    $ target/bin/unbuilt', 'target/bin/unbuilt is not built'),
+    ('    $ crates/machine/out/machine', 'crates/machine/out/machine is not built'),
     ('    $ gcc target/staticlib/libkernel.a', 'target/staticlib/libkernel.a is not built'),
-    ('    $ make test', 'removes target/'),
-    ('    $ cd . && RT_JOBS=1 rt prove', 'removes target/'),
+    ('    $ make test', 'runs the gate'),
+    ('    $ cd . && RT_JOBS=1 rt ci', 'runs the gate'),
+    ('    $ rt all verdict', 'proves from nothing'),
     ('    abbrev pub callOf : Machine → Bool', 'no file of definitions has "abbrev pub callOf : Machine → Bool" so'),
     ('x' * 121, 'a line of 121 characters'),
     ('    ' + 'x' * 117, 'a line of 121 characters'),
@@ -169,7 +174,7 @@ def written(folder, changed):
         path = root / name
         path.parent.mkdir(parents=True, exist_ok=True)
         path.write_text(text, encoding='utf-8')
-    (root / 'target/bin/kernel').chmod(0o755)
+    (root / 'crates/kernel/out/kernel').chmod(0o755)
     return root
 
 

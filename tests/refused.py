@@ -1,16 +1,28 @@
 #!/usr/bin/env python3
-"""Checks why the prover refused each must-fail edit: every function and law that the edit names was refused by itself.
+"""Checks why the prover refuses each must-fail edit: every function and law that the edit names is refused by itself.
 
-Usage: refused.py   (from the repository's root, after `rt ci` or `rt must-fail`)
-An edit names them in a line '# Refused: NAME ..'. A function is refused by itself where an error stands in its own proof file, or
-where the search that proves it without one finds nothing; a law where an error stands in it. Only an error that says that a fact fails
-counts: two sides that differ, a goal that does not follow, one that no search proves, or one without the term that an equation of the
-proof rewrites. That something below was not admitted does not, and where a proof no longer fits the code's shape nothing counts.
+Usage: refused.py [CRATE ..]   (from anywhere; without an argument the edits of every crate)
+An edit names them in a line '# Refused: NAME ..'. `rt ci` says of an edit only what was refused first. So each is tried here once more: the
+crate is checked as it stands, and then, in a copy outside the repository, with the edit in it and over what that check kept. Of what the
+check of the copy says, this counts:
+
+- A function is refused by itself where `search` does not prove one of its goals, where rattle finds values at which one is false, or where an
+  error stands in its own proof files that says that a fact fails: two sides that differ, a goal that does not follow, one that no search
+  proves, or one without the term that an equation of the proof rewrites. That a function which it calls is not proved does not count, and
+  where an answer only no longer fits the code's shape nothing of that file does: it names a goal or a place that the edit took away.
+- A law is refused by itself where such an error stands in it.
 """
+import concurrent.futures
+import os
 import pathlib
 import re
+import shutil
+import subprocess
 import sys
+import tempfile
 
+ROOT = pathlib.Path(__file__).resolve().parent.parent
+WORKERS = max(1, len(os.sched_getaffinity(0)) // 2)
 FACT = (
     'the two types',
     'the two indices',
@@ -22,8 +34,11 @@ FACT = (
     'no occurrence of',
     '≟',
 )
-SHAPE = ('that can be named from here', 'not in scope', 'has no field', 'has no `Need-')
+SHAPE = ('that can be named from here', 'not in scope', 'has no field', 'has no `')
 NAMES = re.compile(r'^# Refused: (.+)$', re.M)
+OUTCOME = re.compile(r'(?:fn|struct|enum|trait|impl) (\S+): ')
+UNPROVED = '`search` did not prove'
+FALSE = 'allow values at which this goal is false'
 
 
 def says(errors, words):
@@ -33,37 +48,123 @@ def says(errors, words):
 
 def refused(log, name):
     """Whether the function or the law of this name was refused by itself."""
-    if re.search(rf'^fn \S*::{name}: no proof: .*does not close', log, re.M):
-        return True
-    if re.search(rf'^fn \S*::{name}: ', log, re.M):
-        # Any answer to a need counts, also one that stands in the line that puts the answers together, where a search finds none, an
-        # equation is missing or a rewriting leaves something to show. Functions that call each other, or one that calls itself, have a proof
-        # together, in a folder named after all of them, with a + before each.
-        where = rf'/(?:[+\w]*\+)?{name}(?:\+[+\w]*)?/Proof\.antt:\d+:\d+: error: `(?!\S*-spec`: (?!`search`: no proof of|list the missing equation|give a proof of that))\S+`'
+    found, notes = False, []
+    for line in log.split('\n'):
+        outcome = OUTCOME.match(line)
+        if line.startswith('note: src/'):
+            # What is said of the goals of a function stands right before its outcome.
+            notes.append(line)
+        elif outcome:
+            if line.startswith('fn ') and outcome[1].split('::')[-1] == name and not line.endswith(': proved'):
+                found = True
+                if UNPROVED in line or says(notes, (FALSE,)):
+                    return True
+            notes = []
+    if found:
+        # Functions that call each other, or one that calls itself, have a proof together, in a folder whose name starts with a +.
+        where = rf'/\+?{name}/[A-Z]\w*\.antt:\d+:\d+: error: '
     else:
-        where = rf'/[A-Z]\w*\.antt:\d+:\d+: error: `{name}`'
-    errors = re.findall(rf'{where}: (.*)', log)
+        where = rf'/[A-Z]\w*\.antt:\d+:\d+: error: `{name}`: '
+    errors = re.findall(rf'^\S*{where}(.*)', log, re.M)
     return says(errors, FACT) and not says(errors, SHAPE)
 
 
+def listed():
+    """The lines of crates.txt, by crate."""
+    lines = [line.partition('#')[0].strip() for line in (ROOT / 'crates.txt').read_text(encoding='utf-8').splitlines()]
+    return {re.split(r'[\s:]', line)[0]: line for line in lines if line}
+
+
+def below(lines, crate):
+    """The libraries of the repository that a crate stands on."""
+    uses = [use for use in lines[crate].partition(':')[2].split() if use in lines]
+    return {name for use in uses for name in (use, *below(lines, use))}
+
+
+def edited(edit, crate):
+    """Changes the files of a crate's copy as the edit says; what of it is not there as it has to be, once."""
+    path, old, lost = None, None, []
+    for line in edit.read_text(encoding='utf-8').split('\n'):
+        kind, _, text = line.partition(':')
+        if kind == 'file':
+            path = crate / text.strip()
+        elif kind == 'old':
+            old = text[1:]
+        elif kind == 'new':
+            whole = path.read_text(encoding='utf-8') if path.exists() else ''
+            if whole.count(old) != 1:
+                lost.append(f'{path.relative_to(crate)} has "{old.strip()}" {whole.count(old)} times')
+                continue
+            path.write_text(whole.replace(old, text[1:]), encoding='utf-8')
+    return lost
+
+
+def keeps(one, other):
+    """Gives what was proved a second name where that can be: a check makes such a file anew, and changes none."""
+    if '/out/rlib/' in one or one.endswith('.oantt'):
+        try:
+            return os.link(one, other)
+        except OSError:
+            pass
+    return shutil.copy2(one, other)
+
+
+def check(folder, jobs):
+    """Checks the crate in a folder; its status and what it says."""
+    ran = subprocess.run(['rt', 'check', *jobs], cwd=folder, stdin=subprocess.DEVNULL, stdout=subprocess.PIPE, stderr=subprocess.STDOUT,
+                         text=True, errors='replace')
+    return ran.returncode, ran.stdout
+
+
+def attempt(edit, crate, lines):
+    """Checks a copy of the crate with the edit in it; what says why it did not come to that, and what the check says."""
+    with tempfile.TemporaryDirectory(prefix='refused-') as room:
+        room, copied = pathlib.Path(room), [crate, *below(lines, crate)]
+        (room / 'crates.txt').write_text(''.join(f'{lines[name]}\n' for name in copied), encoding='utf-8')
+        for name in copied:
+            for part in ('src', 'specs', 'proofs', 'out/rlib', *(['out/incremental'] if name == crate else [])):
+                if (ROOT / 'crates' / name / part).is_dir():
+                    shutil.copytree(ROOT / 'crates' / name / part, room / 'crates' / name / part, copy_function=keeps)
+        lost = edited(edit, room / 'crates' / crate)
+        if lost:
+            return f'cannot be applied: {"; ".join(lost)}', ''
+        status, log = check(room / 'crates' / crate, ['--jobs', '1'])
+        if status == 0:
+            return 'was not refused', ''
+        if not re.search(r'^fn ', log, re.M):
+            return f'did not reach the prover:\n{log[:1000]}', ''
+        return '', log
+
+
 def main():
-    root = pathlib.Path('.')
+    lines, edits, proved = listed(), [], {}
+    for edit in sorted(ROOT.glob('crates/*/must-fail/*.edit')):
+        if not sys.argv[1:] or edit.parts[-3] in sys.argv[1:]:
+            edits.append(edit)
+    for crate in lines:
+        if any(edit.parts[-3] == crate for edit in edits):
+            # What this proves of the crate and of the libraries below is what the copies begin with.
+            status, log = check(ROOT / 'crates' / crate, [])
+            proved[crate] = status == 0
+            if status:
+                print('\n'.join(line[:300] for line in log.split('\n')[-12:]))
     named = missed = 0
-    for edit in sorted(root.glob('crates/*/must-fail/*.edit')):
-        crate = edit.parts[-3]
-        found = NAMES.search(edit.read_text(encoding='utf-8'))
-        log = root / 'target' / 'must-fail' / crate / edit.stem / '.log'
-        text = log.read_text(encoding='utf-8', errors='replace') if log.exists() else ''
-        if not found:
-            missed += 1
-            print(f'{crate}/{edit.stem}: names nothing that refuses it')
-            continue
-        for name in found.group(1).split():
-            named += 1
-            if not refused(text, name):
+    with concurrent.futures.ThreadPoolExecutor(WORKERS) as pool:
+        attempts = [pool.submit(attempt, edit, edit.parts[-3], lines) if proved.get(edit.parts[-3]) else None
+                    for edit in edits]
+        for edit, made in zip(edits, attempts):
+            label = f'{edit.parts[-3]}/{edit.stem}'
+            names = NAMES.search(edit.read_text(encoding='utf-8'))
+            why, log = made.result() if made else ('was not tried, since its crate is not proved', '')
+            if why or not names:
                 missed += 1
-                print(f'{crate}/{edit.stem}: {name} was not refused by itself')
-    print(f'{named} functions and laws named by the edits, {missed} of them not refused by themselves')
+                print(f'{label} {why or "names nothing that refuses it"}', flush=True)
+            for name in names[1].split() if names else ():
+                named += 1
+                if not why and not refused(log, name):
+                    missed += 1
+                    print(f'{label}: {name} was not refused by itself', flush=True)
+    print(f'{named} functions and laws named by the edits, {missed} of them or of the edits not refused by themselves')
     return 1 if missed or not named else 0
 
 

@@ -11,15 +11,14 @@ here=$(cd "$(dirname "$0")" && pwd)
 room=$(mktemp -d)
 trap 'rm -rf "$room"' EXIT
 trap 'exit 1' HUP INT TERM
-cp -r crates crates.txt "$room"
-if [ -d target ]; then cp -r target "$room"; fi
-echo 'timing: masks image machine rules' >>"$room/crates.txt"
 mkdir -p "$room/crates/timing/src" "$room/crates/timing/proofs/core_least_masks"
 cat >"$room/crates/timing/src/lib.rt" <<'RT'
+#![tactic(auto)]
+
 use image::load;
 use masks::least_mask;
 
-#[no_mangle]
+#[unsafe(no_mangle)]
 pub extern "C" fn core_least_mask(image: &[u8], pairs: &[u32]) -> u32 {
     let loaded = load(image);
     let machine = loaded.machine;
@@ -28,7 +27,7 @@ pub extern "C" fn core_least_mask(image: &[u8], pairs: &[u32]) -> u32 {
 }
 
 // The lists stand one behind the other, each of so many pairs.
-#[no_mangle]
+#[unsafe(no_mangle)]
 pub extern "C" fn core_least_masks(image: &[u8], lists: &[u32], count: usize, answers: &mut [u32]) {
     let loaded = load(image);
     let machine = loaded.machine;
@@ -46,38 +45,26 @@ pub extern "C" fn core_least_masks(image: &[u8], lists: &[u32], count: usize, an
     }
 }
 RT
-cat >"$room/crates/timing/proofs/core_least_masks/Proof.antt" <<'ANTT'
+cat >"$room/crates/timing/proofs/core_least_masks/Invariants.antt" <<'ANTT'
 -- The function is safe and ends: the loop keeps the buffer's length, and stays within the lists.
-use Prim.Native.Nat.{_-_, _≤_}
-use mathlib.Core.Path.{_≡_, refl}
-use borrow.Author.Needs.{needs}
-use lib.ListN.{length}
-use Rattle·timing·proofs.proofs.core_least_masks.Statement.{statement}
-use Rattle·timing·proofs.proofs.core_least_masks.Tie as tie
+use Rattle.std.proofs.Common.{◌-◌, ◌≡◌, ◌≤◌, length}
+use Rattle.timing.proofs.core_least_masks.Given as goal
 
-abbrev Inv-loop : tie.InvT-loop
-Inv-loop image lists count answers₀ machine i₀ at₀ answers i at = (length answers ≡ length answers₀) × (at ≤ length lists)
+abbrev pub invariant-loop-i : goal.invariant-loop-i
+invariant-loop-i l = (length l.answers ≡ length l.initial.answers) × (l.at ≤ length l.lists)
 
-abbrev μ-loop : tie.MeasureT-loop
-μ-loop image lists count answers₀ machine i₀ at₀ answers i at = length answers₀ - i
-
-pub core-least-masks-spec : {M : Type 1} → statement M
-core-least-masks-spec =
-    tie.close
-    (tie.spec Inv-loop μ-loop (λ c κs. search needs) (λ c. (refl, search needs)) (λ c. search needs) (λ c. search needs) (λ c. search needs)
-    (λ c. search needs) (λ c. search needs) (λ c. search needs) (λ c. search needs) (λ c. search needs) (λ c κs. search needs) (λ c. search needs)
-    (λ c. search needs) (λ c. search needs) (λ c. search needs) (λ c. search needs) (λ c. search needs) (λ c. search needs) (λ c. search needs)
-    (λ c. (search needs, search needs)) (λ c. search needs) (λ c. search needs))
+abbrev pub decreases-loop-i : goal.decreases-loop-i
+decreases-loop-i l = length l.initial.answers - l.i
 ANTT
-(cd "$room" && rt staticlib timing) >"$room/log" 2>&1 || {
+"$here/build.sh" "$room" masks image machine rules >"$room/log" 2>&1 || {
     tail -n 20 "$room/log" >&2
     exit 1
 }
-nm "$room/target/staticlib/libtiming.a" | grep -q 'masks::least_mask$' || {
+nm "$room/crates/timing/out/libtiming.a" | grep -q 'masks::least_mask$' || {
     echo "the least mask is no call of its own, so that lists may share work" >&2
     exit 1
 }
-gcc -std=c11 -O2 -Wall -Wextra -Werror -I "$here" "$here/mask.c" "$here/plain_mask.c" "$room/target/staticlib/libtiming.a" -o "$room/mask"
+gcc -std=c11 -O2 -Wall -Wextra -Werror -I "$here" "$here/mask.c" "$here/plain_mask.c" "$room/crates/timing/out/libtiming.a" -o "$room/mask"
 "$room/mask"
 
 # The instructions of a whole program run: which, sort, none or all of its lists.

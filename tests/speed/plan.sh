@@ -10,14 +10,13 @@ here=$(cd "$(dirname "$0")" && pwd)
 room=$(mktemp -d)
 trap 'rm -rf "$room"' EXIT
 trap 'exit 1' HUP INT TERM
-cp -r crates crates.txt "$room"
-if [ -d target ]; then cp -r target "$room"; fi
-echo 'timing: planner image machine rules' >>"$room/crates.txt"
 mkdir -p "$room/crates/timing/src" "$room/crates/timing/proofs/core_plan"
 cat >"$room/crates/timing/src/lib.rt" <<'RT'
+#![tactic(auto)]
+
 use planner::plan;
 
-#[no_mangle]
+#[unsafe(no_mangle)]
 pub extern "C" fn core_plan(parents: &[u8], contexts: &mut [u16]) -> u8 {
     let planned = plan(parents);
     let places = planned.contexts;
@@ -29,32 +28,19 @@ pub extern "C" fn core_plan(parents: &[u8], contexts: &mut [u16]) -> u8 {
     planned.number
 }
 RT
-cat >"$room/crates/timing/proofs/core_plan/Proof.antt" <<'ANTT'
--- The function is safe and ends: the loop keeps the buffer's length.
-use Prim.Native.Nat.{_-_}
-use mathlib.Core.Path.{_≡_, refl}
-use borrow.Author.Needs.{needs}
-use lib.ListN.{length}
-use Rattle·timing·proofs.proofs.core_plan.Statement.{statement}
-use Rattle·timing·proofs.proofs.core_plan.Tie as tie
+cat >"$room/crates/timing/proofs/core_plan/Invariants.antt" <<'ANTT'
+-- The function is safe and ends: each turn takes the next place.
+use Rattle.std.proofs.Common.{◌-◌}
+use Rattle.timing.proofs.core_plan.Given as goal
 
-abbrev Inv-loop : tie.InvT-loop
-Inv-loop parents contexts₀ planned places i₀ contexts i = length contexts ≡ length contexts₀
-
-abbrev μ-loop : tie.MeasureT-loop
-μ-loop parents contexts₀ planned places i₀ contexts i = length contexts₀ - i
-
-pub core-plan-spec : {M : Type 1} → statement M
-core-plan-spec =
-    tie.close
-    (tie.spec Inv-loop μ-loop (λ c κs. search needs) (λ c. refl) (λ c. search needs) (λ c. search needs) (λ c. search needs) (λ c. search needs)
-    (λ c. search needs) (λ c. search needs) (λ c. search needs) (λ c. search needs) (λ c. search needs) (λ c. search needs) (λ c. search needs))
+abbrev pub decreases-loop-i : goal.decreases-loop-i
+decreases-loop-i l = 16 - l.i
 ANTT
-(cd "$room" && rt staticlib timing) >"$room/log" 2>&1 || {
+"$here/build.sh" "$room" planner image machine rules >"$room/log" 2>&1 || {
     tail -n 20 "$room/log" >&2
     exit 1
 }
-gcc -std=c11 -O2 -Wall -Wextra -Werror -I "$here" "$here/plan.c" "$here/plain_plan.c" "$room/target/staticlib/libtiming.a" -o "$room/plan"
+gcc -std=c11 -O2 -Wall -Wextra -Werror -I "$here" "$here/plan.c" "$here/plain_plan.c" "$room/crates/timing/out/libtiming.a" -o "$room/plan"
 "$room/plan"
 
 # The instructions of a whole program run: which, sort, repetitions.

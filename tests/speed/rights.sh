@@ -10,14 +10,13 @@ here=$(cd "$(dirname "$0")" && pwd)
 room=$(mktemp -d)
 trap 'rm -rf "$room"' EXIT
 trap 'exit 1' HUP INT TERM
-cp -r crates crates.txt "$room"
-if [ -d target ]; then cp -r target "$room"; fi
-echo 'timing: rights image machine rules' >>"$room/crates.txt"
 mkdir -p "$room/crates/timing/src" "$room/crates/timing/proofs/core_count_rights"
 cat >"$room/crates/timing/src/lib.rt" <<'RT'
+#![tactic(auto)]
+
 use rights::count_rights;
 
-#[no_mangle]
+#[unsafe(no_mangle)]
 pub extern "C" fn core_count_rights(input: &[u8], sums: &mut [u32]) -> u32 {
     if sums.len() < 34 {
         return 0;
@@ -34,41 +33,22 @@ pub extern "C" fn core_count_rights(input: &[u8], sums: &mut [u32]) -> u32 {
     counted.refused
 }
 RT
-cat >"$room/crates/timing/proofs/core_count_rights/Proof.antt" <<'ANTT'
--- The function is safe and ends: the loop keeps the buffer's length, and stays within the columns.
-use Prim.Native.Nat.{_-_, _≤_}
-use mathlib.Core.Path.{_≡_, refl}
-use borrow.Author.Needs.{needs}
-use native.Mathlib.Omega.{arith}
-use lib.ListN.{length, getD, length-set}
-use Rattle·timing·proofs.proofs.core_count_rights.Statement.{statement}
-use Rattle·timing·proofs.proofs.core_count_rights.Tie as tie
+cat >"$room/crates/timing/proofs/core_count_rights/Invariants.antt" <<'ANTT'
+-- The function is safe and ends: the loop stays within the columns.
+use Rattle.std.proofs.Common.{◌-◌, ◌≤◌, length}
+use Rattle.timing.proofs.core_count_rights.Given as goal
 
-abbrev Inv-loop : tie.InvT-loop
-Inv-loop input sums₀ counted reads writes s₀ sums s = (length sums ≡ length sums₀) × (34 ≤ length sums)
+abbrev pub invariant-loop-s : goal.invariant-loop-s
+invariant-loop-s l = 34 ≤ length l.sums
 
-abbrev μ-loop : tie.MeasureT-loop
-μ-loop input sums₀ counted reads writes s₀ sums s = 17 - s
-
-slice-write-sums-2 : tie.Need-slice-write-sums-2 Inv-loop μ-loop
-slice-write-sums-2 c =
-    let looping : tie.At-loop Inv-loop μ-loop = (search) in
-    let counting : tie.After-count-rights Inv-loop μ-loop = (search) in
-    let l = looping .loop in
-    omega (arith, length-set (l .sums) (l .s) (getD (counting .count-rights .result .reads) (l .s) 0), l .inv .1)
-
-pub core-count-rights-spec : {M : Type 1} → statement M
-core-count-rights-spec =
-    tie.close
-    (tie.spec Inv-loop μ-loop (λ c. search needs) (λ c κs. search needs) (λ c. (refl, search needs)) (λ c. search needs) (λ c. search needs) (λ c. search needs)
-    (λ c. search needs) (λ c. search needs) (λ c. search needs) (λ c. search needs) (λ c. search needs) slice-write-sums-2 (λ c. search needs) (λ c. search needs)
-    (λ c. (search needs, search needs)) (λ c. search needs) (λ c. search needs))
+abbrev pub decreases-loop-s : goal.decreases-loop-s
+decreases-loop-s l = 17 - l.s
 ANTT
-(cd "$room" && rt staticlib timing) >"$room/log" 2>&1 || {
+"$here/build.sh" "$room" rights image machine rules >"$room/log" 2>&1 || {
     tail -n 20 "$room/log" >&2
     exit 1
 }
-gcc -std=c11 -O2 -Wall -Wextra -Werror -I "$here" "$here/rights.c" "$here/plain_rights.c" "$room/target/staticlib/libtiming.a" -o "$room/rights"
+gcc -std=c11 -O2 -Wall -Wextra -Werror -I "$here" "$here/rights.c" "$here/plain_rights.c" "$room/crates/timing/out/libtiming.a" -o "$room/rights"
 "$room/rights"
 
 # The instructions of a whole program run: which and sort.

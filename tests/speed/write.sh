@@ -2,8 +2,8 @@
 # Compares the writer of images with a plain C version: time, then instructions, of writing an image of 574 bytes.
 #
 # The library that the bench links has no writer, so a crate is made in a copy of the crates, outside the repository: one function for C that
-# loads an image and writes the loaded machine so many times. It is proved and built like any other. What was proved before is taken along: all of
-# target/ is copied to a temporary directory, which is removed at the end.
+# loads an image and writes the loaded machine so many times. It is proved and built like any other, in a temporary directory, which is removed at
+# the end (build.sh).
 #
 # usage: tests/speed/write.sh   (from the repository's root)
 set -eu
@@ -11,17 +11,16 @@ here=$(cd "$(dirname "$0")" && pwd)
 room=$(mktemp -d)
 trap 'rm -rf "$room"' EXIT
 trap 'exit 1' HUP INT TERM
-cp -r crates crates.txt "$room"
-if [ -d target ]; then cp -r target "$room"; fi
-echo 'timing: image machine rules' >>"$room/crates.txt"
 mkdir -p "$room/crates/timing/src" "$room/crates/timing/proofs/core_write_times"
 cat >"$room/crates/timing/src/lib.rt" <<'RT'
+#![tactic(auto)]
+
 use image::load;
 use image::write;
 use machine::record::read_field;
 
 // What is given back depends on a field that the compiler does not know, so that a load with no writing makes the whole machine too.
-#[no_mangle]
+#[unsafe(no_mangle)]
 pub extern "C" fn core_write_times(image: &[u8], out: &mut [u8], times: u32, field: usize) -> u32 {
     let loaded = load(image);
     let machine = loaded.machine;
@@ -33,38 +32,19 @@ pub extern "C" fn core_write_times(image: &[u8], out: &mut [u8], times: u32, fie
     read_field(&machine.fields, field) as u32
 }
 RT
-cat >"$room/crates/timing/proofs/core_write_times/Proof.antt" <<'ANTT'
--- The function is safe and ends: the loop keeps the buffer's length.
-use Prim.Native.Nat.{_-_}
-use mathlib.Core.Path.{_≡_, refl, _∙_}
-use borrow.Author.Needs.{needs}
-use lib.ListN.{length}
-use Rattle·timing·proofs.proofs.core_write_times.Statement.{statement}
-use Rattle·timing·proofs.proofs.core_write_times.Tie as tie
+cat >"$room/crates/timing/proofs/core_write_times/Invariants.antt" <<'ANTT'
+-- The function is safe and ends: the loop is left after so many turns.
+use Rattle.std.proofs.Common.{◌-◌}
+use Rattle.timing.proofs.core_write_times.Given as goal
 
-abbrev Inv-loop : tie.InvT-loop
-Inv-loop image out₀ times field machine i₀ out i = length out ≡ length out₀
-
-abbrev μ-loop : tie.MeasureT-loop
-μ-loop image out₀ times field machine i₀ out i = times - i
-
-loop-again : tie.Need-loop-again Inv-loop μ-loop
-loop-again c =
-    let writing : tie.After-write Inv-loop μ-loop = (search) in
-    let looping : tie.At-loop Inv-loop μ-loop = (search) in
-    writing .write .kept .1 .0 ∙ looping .loop .inv
-
-pub core-write-times-spec : {M : Type 1} → statement M
-core-write-times-spec =
-    tie.close
-    (tie.spec Inv-loop μ-loop (λ c κs. search needs) (λ c. refl) (λ c κs. search needs) (λ c. search needs) (λ c. search needs) loop-again
-    (λ c κs. search needs) (λ c. search needs) (λ c. search needs) (λ c. search needs))
+abbrev pub decreases-loop-i : goal.decreases-loop-i
+decreases-loop-i l = l.times - l.i
 ANTT
-(cd "$room" && rt staticlib timing) >"$room/log" 2>&1 || {
+"$here/build.sh" "$room" image machine rules >"$room/log" 2>&1 || {
     tail -n 20 "$room/log" >&2
     exit 1
 }
-gcc -std=c11 -O2 -Wall -Wextra -Werror -I "$here" "$here/write.c" "$here/plain_write.c" "$room/target/staticlib/libtiming.a" -o "$room/write"
+gcc -std=c11 -O2 -Wall -Wextra -Werror -I "$here" "$here/write.c" "$here/plain_write.c" "$room/crates/timing/out/libtiming.a" -o "$room/write"
 "$room/write"
 
 # The instructions of a whole program run of 1,000 loads: which, how many writings after each.
