@@ -6,4 +6,6 @@
 set -eu
 [ $# -eq 1 ] || { echo "usage: tools/program.sh NAME" >&2; exit 2; }
 cd "$(dirname "$0")/../crates/$1"
-rt run <stdin >/dev/null
+input=/dev/null
+[ ! -f stdin ] || input=stdin
+rt run <"$input" >/dev/null
