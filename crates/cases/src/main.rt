@@ -5,11 +5,12 @@
 
 mod writing;
 
-ghost use Rattle.std.specs.Prelude.{◌≡◌, ◌≤◌, length};
+ghost use Rattle.std.specs.Prelude.{◌≡◌, ◌≤◌, length, IfOk};
 ghost use Rattle.cases.specs.Cases.{is_writing, end_of, next_of};
 
 use image::bytes::{byte_at, word_at};
-use libc::{STDIN_FILENO, STDOUT_FILENO};
+use input::read_full;
+use std::io;
 use writing::print_writing;
 
 // Whether the case at a place of the bytes is one of writing.
@@ -30,67 +31,63 @@ fn end_at(bytes: &[u8], at: u32) -> usize
 }
 
 // Prints the text of an input, and answers how long the input is.
-fn print_text(input: &[u8]) -> usize
-    ensures { result ≡ length input.now }
+fn print_text(rt: &impl Print, input: &[u8]) -> io::Result<usize>
+    ensures { IfOk result (λ size. size ≡ length input.now) }
 {
     let mut text = [0u8; 100000];
     let size = text::text_of(input, &mut text);
-    io::write_all(STDOUT_FILENO, &text[..size]);
-    input.len()
+    rt.write_all(&text[..size])?;
+    Ok(input.len())
 }
 
 // Prints the number of a case and what it gives, and answers how long it is.
-fn print_case(case: &[u8], number: u64, writes: bool) -> usize
-    ensures { result ≡ length case.now }
+fn print_case(rt: &impl Print, case: &[u8], number: u64, writes: bool) -> io::Result<usize>
+    ensures { IfOk result (λ size. size ≡ length case.now) }
 {
-    io::write_all(STDOUT_FILENO, b"case ");
-    io::print_decimal(STDOUT_FILENO, number);
-    io::write_all(STDOUT_FILENO, b"\n");
+    println!(rt; "case {number}")?;
     if writes {
-        print_writing(case);
+        print_writing(rt, case)?;
     } else {
-        print_text(case);
+        print_text(rt, case)?;
     }
-    case.len()
+    Ok(case.len())
 }
 
 // Runs the case at a place of the bytes, where they hold all of it, and answers where the next one stands.
-fn run_case(bytes: &[u8], at: usize, number: u64) -> usize
+fn run_case(rt: &impl Print, bytes: &[u8], at: usize, number: u64) -> io::Result<usize>
     requires { at ≤ 524288 }
-    ensures { result ≡ next_of bytes.now at }
+    ensures { IfOk result (λ next. next ≡ next_of bytes.now at) }
 {
     let end = end_at(bytes, at as u32);
     if end <= bytes.len() {
         let writes = is_writing(bytes, at);
-        return at + 4 + print_case(&bytes[at + 4..end], number, writes);
+        return Ok(at + 4 + print_case(rt, &bytes[at + 4..end], number, writes)?);
     }
-    bytes.len()
+    Ok(bytes.len())
 }
 
 // Runs the cases one after another, and answers where they end: at the end of the bytes.
-fn run_cases(bytes: &[u8]) -> usize
+fn run_cases(rt: &impl Print, bytes: &[u8]) -> io::Result<usize>
     requires { length bytes.now ≤ 524288 }
-    ensures { result ≡ length bytes.now }
+    ensures { IfOk result (λ end. end ≡ length bytes.now) }
 {
     let mut at: usize = 0;
     let mut number: u64 = 1;
     while at < bytes.len() {
-        at = run_case(bytes, at, number);
+        at = run_case(rt, bytes, at, number)?;
         number += 1;
     }
-    at
+    Ok(at)
 }
 
-fn main() {
+fn main(rt: HostRuntime) -> io::Result<()> {
     let mut bytes = [0u8; 524288];
-    let got = io::read_full(STDIN_FILENO, &mut bytes);
-    run_cases(&bytes[..got]);
+    let got = read_full(&mut rt.stdin(), &mut bytes)?;
+    run_cases(&rt, &bytes[..got])?;
     let mut past = [0u8; 1];
-    let more = io::read_full(STDIN_FILENO, &mut past);
+    let more = read_full(&mut rt.stdin(), &mut past)?;
     if more != 0 {
-        io::write_all(
-            STDOUT_FILENO,
-            b"more than 524288 bytes: the rest was not read\n",
-        );
+        println!(rt; "more than 524288 bytes: the rest was not read")?;
     }
+    Ok(())
 }

@@ -1,7 +1,7 @@
 // A case of writing: two rounds of a load, calls and a write, the second on the image that the first one wrote. Its bytes are the room of the
 // lent buffer (2 bytes, high byte first) and an input as `pagerun` takes it. A record's line has what the call by value named, as that of a run has it. What
 // the question for the last violation hands out, which a run does not show, is printed here.
-ghost use Rattle.std.specs.Prelude.{◌≡◌, ◌<◌, min, length, drop, replicate};
+ghost use Rattle.std.specs.Prelude.{◌≡◌, ◌<◌, ◌⊎◌, min, length, drop, replicate, IfOk, OnOk, OnErr};
 ghost use Rattle.image.specs.Bytes.{byte_at, word_at};
 ghost use Rattle.image.specs.Write.{written_of, buffer_after};
 ghost use Rattle.run.specs.Records.{call_of_kind, calls_of, step_of};
@@ -9,9 +9,9 @@ ghost use Rattle.cases.specs.Writing.{room_of, digit_of, digits_of, machine_afte
 
 use image::bytes::{byte_at, word_at};
 use image::{load, write};
-use libc::STDOUT_FILENO;
 use machine::{Answered, Call, Machine, Report};
 use run::{Decoded, call_of_kind};
+use std::io;
 
 // The record with which the bytes start.
 fn record_of(bytes: &[u8]) -> Decoded
@@ -77,62 +77,53 @@ fn call_on(machine: Machine, decoded: Decoded) -> Answered
 }
 
 // Prints two numbers on a line, and hands the first back.
-fn print_two(first: u64, second: u64) -> u64
-    ensures { result ≡ first }
+fn print_two(rt: &impl Print, first: u64, second: u64) -> io::Result<u64>
+    ensures { IfOk result (λ printed. printed ≡ first) }
 {
-    io::print_decimal(STDOUT_FILENO, first);
-    io::write_all(STDOUT_FILENO, b" ");
-    io::print_decimal(STDOUT_FILENO, second);
-    io::write_all(STDOUT_FILENO, b"\n");
-    first
+    println!(rt; "{first} {second}")?;
+    Ok(first)
 }
 
 // Prints what was handed out on a line: program, right and address, or that it was none. Hands it back.
-fn print_report(report: Report) -> Report
-    ensures { result ≡ report }
+fn print_report(rt: &impl Print, report: Report) -> io::Result<Report>
+    ensures { IfOk result (λ printed. printed ≡ report) }
 {
     let Report::Denied(violation) = report else {
-        io::write_all(STDOUT_FILENO, b"none\n");
-        return report;
+        println!(rt; "none")?;
+        return Ok(report);
     };
-    io::write_all(STDOUT_FILENO, b"denied ");
-    io::print_decimal(STDOUT_FILENO, violation.program as u64);
-    io::write_all(STDOUT_FILENO, b" ");
-    print_two(violation.right as u64, violation.address as u64);
-    report
+    print!(rt; "denied {} ", violation.program)?;
+    print_two(rt, violation.right as u64, violation.address as u64)?;
+    Ok(report)
 }
 
 // Prints the last field of a record's line: the domain that was named, or that it was none. Hands the report back.
-fn print_name(report: Report) -> Report
-    ensures { result ≡ report }
+fn print_name(rt: &impl Print, report: Report) -> io::Result<Report>
+    ensures { IfOk result (λ printed. printed ≡ report) }
 {
     let Report::Through(domain) = report else {
-        io::write_all(STDOUT_FILENO, b" -\n");
-        return report;
+        println!(rt; " -")?;
+        return Ok(report);
     };
-    io::write_all(STDOUT_FILENO, b" ");
-    io::print_decimal(STDOUT_FILENO, domain.0 as u64);
-    io::write_all(STDOUT_FILENO, b"\n");
-    report
+    println!(rt; " {}", domain.0)?;
+    Ok(report)
 }
 
 // Prints the number and the answer of a record and what it named, and after one of kind 12 what it handed out. Gives the record's number back.
-fn print_call(number: u64, kind: u8, answer: u8, report: Report) -> u64
-    ensures { result ≡ number }
+fn print_call(rt: &impl Print, number: u64, kind: u8, answer: u8, report: Report) -> io::Result<u64>
+    ensures { IfOk result (λ printed. printed ≡ number) }
 {
-    io::print_decimal(STDOUT_FILENO, number);
-    io::write_all(STDOUT_FILENO, b" ");
-    io::print_decimal(STDOUT_FILENO, answer as u64);
-    print_name(report);
+    print!(rt; "{number} {answer}")?;
+    print_name(rt, report)?;
     if kind == 12 {
-        print_report(report);
+        print_report(rt, report)?;
     }
-    number
+    Ok(number)
 }
 
 // Makes the calls one after another, each on the machine that the one before it left, and prints what each answers.
-fn make_calls(start: Machine, calls: &[u8]) -> Machine
-    ensures { result ≡ machine_after start (calls_of calls.now) }
+fn make_calls(rt: &impl Print, start: Machine, calls: &[u8]) -> io::Result<Machine>
+    ensures { IfOk result (λ machine. machine ≡ machine_after start (calls_of calls.now)) }
 {
     let mut answered = Answered {
         number: 0,
@@ -145,24 +136,22 @@ fn make_calls(start: Machine, calls: &[u8]) -> Machine
         answered = call_on(answered.machine, record_of(&calls[at..]));
         at += 6;
         let report = answered.report;
-        print_call((at / 6) as u64, kind, answered.number, report);
+        print_call(rt, (at / 6) as u64, kind, answered.number, report)?;
     }
-    answered.machine
+    Ok(answered.machine)
 }
 
 // Loads an image and makes the calls where it loads, prints the answers, and gives the machine that is then held.
-fn hold(bytes: &[u8], calls: &[u8]) -> Machine
-    ensures { result ≡ held_of bytes.now calls.now }
+fn hold(rt: &impl Print, bytes: &[u8], calls: &[u8]) -> io::Result<Machine>
+    ensures { IfOk result (λ machine. machine ≡ held_of bytes.now calls.now) }
 {
     let loaded = load(bytes);
     let number = loaded.number;
-    io::write_all(STDOUT_FILENO, b"load ");
-    io::print_decimal(STDOUT_FILENO, number as u64);
-    io::write_all(STDOUT_FILENO, b"\n");
+    println!(rt; "load {number}")?;
     if number == 0 {
-        return make_calls(loaded.machine, calls);
+        return make_calls(rt, loaded.machine, calls);
     }
-    loaded.machine
+    Ok(loaded.machine)
 }
 
 // The upper-case hexadecimal digit of a number.
@@ -184,44 +173,53 @@ fn digits_of(byte: u8) -> [u8; 2]
 }
 
 // Prints bytes in hexadecimal on a line, with a space between two, and answers how many they are.
-fn print_bytes(bytes: &[u8]) -> usize
-    ensures { result ≡ length bytes.now }
+fn print_bytes(rt: &impl Print, bytes: &[u8]) -> io::Result<usize>
+    ensures { IfOk result (λ count. count ≡ length bytes.now) }
 {
     let mut i: usize = 0;
     while i < bytes.len() {
         if i != 0 {
-            io::write_all(STDOUT_FILENO, b" ");
+            rt.write_all(b" ")?;
         }
         let digits = digits_of(bytes[i]);
-        io::write_all(STDOUT_FILENO, &digits);
+        rt.write_all(&digits)?;
         i += 1;
     }
-    io::write_all(STDOUT_FILENO, b"\n");
-    i
+    println!(rt)?;
+    Ok(i)
 }
 
 // A round on an image, with the calls and a buffer: prints what the load, the calls and the write answer, and the whole buffer after it, and
 // answers how many bytes were written.
-fn print_round(bytes: &[u8], calls: &[u8], buffer: &mut [u8]) -> usize
-    ensures value { result ≡ (written_of (held_of bytes.now calls.now) (length buffer.old)).count }
-    ensures buffer_after { buffer.new ≡ buffer_after (held_of bytes.now calls.now) buffer.old }
+fn print_round(rt: &impl Print, bytes: &[u8], calls: &[u8], buffer: &mut [u8]) -> io::Result<usize>
+    ensures value { IfOk result (λ count. count ≡ (written_of (held_of bytes.now calls.now) (length buffer.old)).count) }
+    ensures buffer_after { OnOk result (buffer.new ≡ buffer_after (held_of bytes.now calls.now) buffer.old) }
+    ensures err { OnErr result ((buffer.new ≡ buffer.old) ⊎ (buffer.new ≡ buffer_after (held_of bytes.now calls.now) buffer.old)) }
 {
-    let machine = hold(bytes, calls);
+    let machine = hold(rt, bytes, calls)?;
     let written = write(machine, buffer);
-    io::write_all(STDOUT_FILENO, b"write ");
-    print_two(written.number as u64, written.count as u64);
-    print_bytes(buffer);
-    written.count
+    print!(rt; "write ")?;
+    print_two(rt, written.number as u64, written.count as u64)?;
+    print_bytes(rt, buffer)?;
+    Ok(written.count)
 }
 
 // The two rounds, the second on the bytes that the first wrote, with the same calls; answers how many bytes the second wrote.
-fn print_rounds(bytes: &[u8], calls: &[u8], first: &mut [u8], second: &mut [u8]) -> usize
-    ensures value { result ≡ (written_of (again_of bytes.now calls.now (length first.old)) (length second.old)).count }
-    ensures first_after { first.new ≡ buffer_after (held_of bytes.now calls.now) first.old }
-    ensures second_after { second.new ≡ buffer_after (again_of bytes.now calls.now (length first.old)) second.old }
+fn print_rounds(
+    rt: &impl Print,
+    bytes: &[u8],
+    calls: &[u8],
+    first: &mut [u8],
+    second: &mut [u8],
+) -> io::Result<usize>
+    ensures value { IfOk result (λ count. count ≡ (written_of (again_of bytes.now calls.now (length first.old)) (length second.old)).count) }
+    ensures first_after { OnOk result (first.new ≡ buffer_after (held_of bytes.now calls.now) first.old) }
+    ensures second_after { OnOk result (second.new ≡ buffer_after (again_of bytes.now calls.now (length first.old)) second.old) }
+    ensures first_err { OnErr result ((first.new ≡ first.old) ⊎ (first.new ≡ buffer_after (held_of bytes.now calls.now) first.old)) }
+    ensures second_err { OnErr result ((second.new ≡ second.old) ⊎ (second.new ≡ buffer_after (again_of bytes.now calls.now (length first.old)) second.old)) }
 {
-    let count = print_round(bytes, calls, first);
-    print_round(&first[..count], calls, second)
+    let count = print_round(rt, bytes, calls, first)?;
+    print_round(rt, &first[..count], calls, second)
 }
 
 // The lesser of two numbers.
@@ -254,8 +252,8 @@ fn fresh() -> [u8; 640]
 }
 
 // Prints the two rounds of a case, and answers how many bytes the second wrote.
-pub fn print_writing(bytes: &[u8]) -> usize
-    ensures { result ≡ rewritten_of bytes.now }
+pub fn print_writing(rt: &impl Print, bytes: &[u8]) -> io::Result<usize>
+    ensures { IfOk result (λ count. count ≡ rewritten_of bytes.now) }
 {
     let room = room_of(bytes);
     let input = past_two(bytes);
@@ -264,6 +262,7 @@ pub fn print_writing(bytes: &[u8]) -> usize
     let mut first = fresh();
     let mut second = fresh();
     print_rounds(
+        rt,
         &rest[..size],
         &rest[size..],
         &mut first[..room],

@@ -2,7 +2,7 @@
 // docs/KERNEL.md goes through it. It prints what its calls answer on the sample node.
 #![tactic(auto)]
 
-ghost use Rattle.std.specs.Prelude.{true, false, ◌≡◌, ◌<◌, eqb, get_or, set};
+ghost use Rattle.std.specs.Prelude.{true, false, ◌≡◌, ◌<◌, eqb, get_or, set, IfOk};
 ghost use Rattle.rules.specs.Refusals.{pick};
 ghost use Rattle.machine.specs.Calls.{call_of};
 ghost use Rattle.machine.specs.Machine.{is_sound, with_programs};
@@ -12,8 +12,8 @@ ghost use Rattle.image.specs.Load.{load_of};
 ghost use Rattle.kernel.specs.Kernel.{call_for, begun_of, served_of};
 
 use image::load;
-use libc::STDOUT_FILENO;
 use machine::{Answered, Domain, Machine, Page, Report, Width};
+use std::io;
 
 // What a program asks its kernel for: the accesses of its instructions, to one byte or to two, and its commands.
 #[derive(Clone, Copy)]
@@ -129,44 +129,40 @@ fn serve_all(start: Machine, requests: [Request; 3]) -> Served
 
 // Tells support who was denied what, within the interrupt that a violation brings: prints the last violation on a line, where the machine hands
 // one out, and gives the answer back.
-fn tell_support(machine: Machine) -> Answered
-    ensures { result ≡ call_of machine Call.AskViolation }
+fn tell_support(rt: &impl Print, machine: Machine) -> io::Result<Answered>
+    ensures { IfOk result (λ asked. asked ≡ call_of machine Call.AskViolation) }
 {
     let asked = machine.ask_violation();
     let report = asked.report;
     let Report::Denied(violation) = report else {
-        return asked;
+        return Ok(asked);
     };
-    io::write_all(STDOUT_FILENO, b"denied: program ");
-    io::print_decimal(STDOUT_FILENO, violation.program as u64);
-    io::write_all(STDOUT_FILENO, b", right ");
-    io::print_decimal(STDOUT_FILENO, violation.right as u64);
-    io::write_all(STDOUT_FILENO, b", address ");
-    io::print_decimal(STDOUT_FILENO, violation.address as u64);
-    io::write_all(STDOUT_FILENO, b"\n");
-    asked
+    println!(rt;
+        "denied: program {}, right {}, address {}",
+        violation.program, violation.right, violation.address
+    )?;
+    Ok(asked)
 }
 
 // Prints a number on a line of its own, and hands it back.
-fn print(number: u8) -> u8
-    ensures { result ≡ number }
+fn print(rt: &impl Print, number: u8) -> io::Result<u8>
+    ensures { IfOk result (λ printed. printed ≡ number) }
 {
-    io::print_decimal(STDOUT_FILENO, number as u64);
-    io::write_all(STDOUT_FILENO, b"\n");
-    number
+    println!(rt; "{number}")?;
+    Ok(number)
 }
 
 // The sample node: a load, three requests of program 0 of which a violation and the one after it are refused, an interrupt in which support is told
 // of it and the program's registers are stored, the turn of program 1, and three of its requests, of which the last two are refused: it does not hold
 // the prevailing domain, and may not write page 0. Both programs read two bytes from 511 on, the last of page 1 and the first of page 2: program 0 may
 // not read page 2, program 1 may read both.
-fn main() {
+fn main(rt: HostRuntime) -> io::Result<()> {
     let image = [
         1u8, 0, 0, 18, 0, 4, 2, 0, 0, 22, 0, 12, 3, 0, 0, 34, 0, 10, 3, 8, 2, 0, 0, 9, 0, 0, 0, 10,
         0, 2, 0, 12, 0, 4, 0, 7, 0, 3, 0, 0, 8, 255, 255, 0,
     ];
     let loaded = boot(&image);
-    print(loaded.number);
+    print(&rt, loaded.number)?;
     let first = serve_all(
         loaded.machine,
         [
@@ -175,16 +171,16 @@ fn main() {
             Request::ReplaceMask(7),
         ],
     );
-    print(first.refused);
+    print(&rt, first.refused)?;
     let interrupted = first.machine.enter();
-    let asked = tell_support(interrupted.machine);
+    let asked = tell_support(&rt, interrupted.machine)?;
     let stored = store_current(asked.machine);
-    print(stored.number);
+    print(&rt, stored.number)?;
     let resumed = stored.machine.leave();
     let begun = begin_turn(resumed.machine, 1);
-    print(begun.entry);
-    print(begun.switch);
-    print(begun.leave);
+    print(&rt, begun.entry)?;
+    print(&rt, begun.switch)?;
+    print(&rt, begun.leave)?;
     let second = serve_all(
         begun.machine,
         [
@@ -193,5 +189,6 @@ fn main() {
             Request::Write(Width::One, 0),
         ],
     );
-    print(second.refused);
+    print(&rt, second.refused)?;
+    Ok(())
 }

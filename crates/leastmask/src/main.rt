@@ -3,7 +3,7 @@
 // line: which case it is, counted from 1, `start` and how the node started, `mask` and the number, the mask in hexadecimal, and its domains, or `-` where it has none.
 #![tactic(auto)]
 
-ghost use Rattle.std.specs.Prelude.{◌≡◌, ◌++◌, ◌≤◌, ◌/◌, length, drop};
+ghost use Rattle.std.specs.Prelude.{◌≡◌, ◌++◌, ◌≤◌, ◌/◌, length, drop, IfOk};
 ghost use Rattle.rules.specs.Domains.{holds};
 ghost use Rattle.rules.specs.Refusals.{pick};
 ghost use Rattle.masks.specs.Least.{domain_count, least_mask_of};
@@ -11,10 +11,11 @@ ghost use Rattle.leastmask.specs.Asked.{started_of, pair_at, pairs_of};
 
 use image::bytes::word_at;
 use image::load;
-use libc::{STDIN_FILENO, STDOUT_FILENO};
+use input::read_full;
 use machine::{Answered, Machine, Report};
 use masks::{LeastMask, least_mask};
 use rules::domains::holds_domain;
+use std::io;
 
 // Starts a node on a program: the load, and the three calls with which a turn begins. A node that does not start is the all-zero machine.
 fn start(image: &[u8], program: u16) -> Answered
@@ -70,63 +71,65 @@ fn ask(machine: Machine, bytes: &[u8]) -> LeastMask
 }
 
 // Prints domain s, a space before it, where a mask holds it; answers how many it printed.
-fn print_domain(mask: u16, s: u16) -> u32
-    ensures { result ≡ pick (holds mask s) 1 0 }
+fn print_domain(rt: &impl Print, mask: u16, s: u16) -> io::Result<u32>
+    ensures { IfOk result (λ count. count ≡ pick (holds mask s) 1 0) }
 {
     if holds_domain(mask, s) {
-        io::write_all(STDOUT_FILENO, b" ");
-        io::print_decimal(STDOUT_FILENO, s as u64);
-        return 1;
+        print!(rt; " {s}")?;
+        return Ok(1);
     }
-    0
+    Ok(0)
 }
 
 // Prints the domains of a mask, or that it has none, and ends the line; answers how many they are.
-fn print_domains(mask: u16) -> u32
-    ensures { result ≡ domain_count mask }
+fn print_domains(rt: &impl Print, mask: u16) -> io::Result<u32>
+    ensures { IfOk result (λ count. count ≡ domain_count mask) }
 {
     let mut count: u32 = 0;
     let mut s: u16 = 0;
     while s < 16 {
-        count += print_domain(mask, s);
+        count += print_domain(rt, mask, s)?;
         s += 1;
     }
     if count == 0 {
-        io::write_all(STDOUT_FILENO, b" -");
+        print!(rt; " -")?;
     }
-    io::write_all(STDOUT_FILENO, b"\n");
-    count
+    println!(rt)?;
+    Ok(count)
 }
 
 // Prints the line of a case; answers how many domains the mask has.
-fn print_line(which: u64, start: u8, least: LeastMask) -> u32
-    ensures { result ≡ domain_count least.mask }
+fn print_line(rt: &impl Print, which: u64, start: u8, least: LeastMask) -> io::Result<u32>
+    ensures { IfOk result (λ count. count ≡ domain_count least.mask) }
 {
-    io::print_decimal(STDOUT_FILENO, which);
-    io::write_all(STDOUT_FILENO, b" start ");
-    io::print_decimal(STDOUT_FILENO, start as u64);
-    io::write_all(STDOUT_FILENO, b" mask ");
-    io::print_decimal(STDOUT_FILENO, least.number as u64);
-    io::write_all(STDOUT_FILENO, b" ");
-    io::print_hex(STDOUT_FILENO, least.mask as u64, 4);
-    print_domains(least.mask)
+    print!(rt;
+        "{which} start {start} mask {} {:04x}",
+        least.number, least.mask
+    )?;
+    print_domains(rt, least.mask)
 }
 
 // Asks a case, prints its line, and hands back what was found.
-fn print_case(which: u64, image: &[u8], program: u16, bytes: &[u8]) -> LeastMask
+fn print_case(
+    rt: &impl Print,
+    which: u64,
+    image: &[u8],
+    program: u16,
+    bytes: &[u8],
+) -> io::Result<LeastMask>
     requires { length bytes.now ≤ 65536 }
-    ensures { result ≡ least_mask_of (started_of image.now program).machine (pairs_of bytes.now) }
+    ensures { IfOk result (λ least. least ≡ least_mask_of (started_of image.now program).machine (pairs_of bytes.now)) }
 {
     let started = start(image, program);
     let least = ask(started.machine, bytes);
-    print_line(which, started.number, least);
-    least
+    print_line(rt, which, started.number, least)?;
+    Ok(least)
 }
 
 // Asks the cases one after another, and answers how many bytes there are.
-fn print_cases(bytes: &[u8]) -> usize
+fn print_cases(rt: &impl Print, bytes: &[u8]) -> io::Result<usize>
     requires { length bytes.now ≤ 65536 }
-    ensures { result ≡ length bytes.now }
+    ensures { IfOk result (λ count. count ≡ length bytes.now) }
 {
     let mut at: usize = 0;
     let mut which: u64 = 1;
@@ -135,18 +138,25 @@ fn print_cases(bytes: &[u8]) -> usize
         let first = middle + 4;
         let end = first + 4 * (word_at(bytes, middle as u32 + 2) as usize);
         if bytes.len() < end {
-            return bytes.len();
+            return Ok(bytes.len());
         }
         let program = word_at(bytes, middle as u32);
-        print_case(which, &bytes[at + 2..middle], program, &bytes[first..end]);
+        print_case(
+            rt,
+            which,
+            &bytes[at + 2..middle],
+            program,
+            &bytes[first..end],
+        )?;
         at = end;
         which += 1;
     }
-    bytes.len()
+    Ok(bytes.len())
 }
 
-fn main() {
+fn main(rt: HostRuntime) -> io::Result<()> {
     let mut bytes = [0u8; 65536];
-    let got = io::read_full(STDIN_FILENO, &mut bytes);
-    print_cases(&bytes[..got]);
+    let got = read_full(&mut rt.stdin(), &mut bytes)?;
+    print_cases(&rt, &bytes[..got])?;
+    Ok(())
 }

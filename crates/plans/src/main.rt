@@ -3,61 +3,60 @@
 // line: which list it is, counted from 1, the number of its plan, and the sixteen places in hexadecimal.
 #![tactic(auto)]
 
-ghost use Rattle.std.specs.Prelude.{◌≡◌, ◌≤◌, length};
+ghost use Rattle.std.specs.Prelude.{◌≡◌, ◌≤◌, length, IfOk};
 ghost use Rattle.planner.specs.Plan.{plan_of};
 
 use image::bytes::word_at;
-use libc::{STDIN_FILENO, STDOUT_FILENO};
+use input::read_full;
 use planner::{Planned, plan};
+use std::io;
 
 // Prints contexts in hexadecimal, a space before each, and ends the line; answers how many they are.
-fn print_contexts(contexts: &[u16]) -> usize
-    ensures { result ≡ length contexts.now }
+fn print_contexts(rt: &impl Print, contexts: &[u16]) -> io::Result<usize>
+    ensures { IfOk result (λ count. count ≡ length contexts.now) }
 {
     let mut i: usize = 0;
     while i < contexts.len() {
-        io::write_all(STDOUT_FILENO, b" ");
-        io::print_hex(STDOUT_FILENO, contexts[i] as u64, 4);
+        print!(rt; " {:04x}", contexts[i])?;
         i += 1;
     }
-    io::write_all(STDOUT_FILENO, b"\n");
-    i
+    println!(rt)?;
+    Ok(i)
 }
 
 // Plans a list, prints the plan, and hands it back.
-fn print_plan(list: &[u8], which: u64) -> Planned
-    ensures { result ≡ plan_of list.now }
+fn print_plan(rt: &impl Print, list: &[u8], which: u64) -> io::Result<Planned>
+    ensures { IfOk result (λ planned. planned ≡ plan_of list.now) }
 {
     let planned = plan(list);
-    io::print_decimal(STDOUT_FILENO, which);
-    io::write_all(STDOUT_FILENO, b" ");
-    io::print_decimal(STDOUT_FILENO, planned.number as u64);
+    print!(rt; "{which} {}", planned.number)?;
     let contexts = planned.contexts;
-    print_contexts(&contexts);
-    planned
+    print_contexts(rt, &contexts)?;
+    Ok(planned)
 }
 
 // Plans the lists one after another, and answers how many bytes there are.
-fn print_plans(bytes: &[u8]) -> usize
+fn print_plans(rt: &impl Print, bytes: &[u8]) -> io::Result<usize>
     requires { length bytes.now ≤ 65536 }
-    ensures { result ≡ length bytes.now }
+    ensures { IfOk result (λ count. count ≡ length bytes.now) }
 {
     let mut at: usize = 0;
     let mut which: u64 = 1;
     while at < bytes.len() {
         let end = at + 2 + word_at(bytes, at as u32) as usize;
         if bytes.len() < end {
-            return bytes.len();
+            return Ok(bytes.len());
         }
-        print_plan(&bytes[at + 2..end], which);
+        print_plan(rt, &bytes[at + 2..end], which)?;
         at = end;
         which += 1;
     }
-    bytes.len()
+    Ok(bytes.len())
 }
 
-fn main() {
+fn main(rt: HostRuntime) -> io::Result<()> {
     let mut bytes = [0u8; 65536];
-    let got = io::read_full(STDIN_FILENO, &mut bytes);
-    print_plans(&bytes[..got]);
+    let got = read_full(&mut rt.stdin(), &mut bytes)?;
+    print_plans(&rt, &bytes[..got])?;
+    Ok(())
 }
