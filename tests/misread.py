@@ -29,7 +29,6 @@ is 0 where that is all of them, and every law file is looked at.
 """
 import concurrent.futures
 import pathlib
-import platform
 import re
 import shutil
 import subprocess
@@ -53,15 +52,15 @@ FACT = (
     'no occurrence of',
     '≟',
 )
-ERROR = re.compile(r'^(?:(\S+): )?error: (?:`([^`]+)`: )?(.*)$', re.M)
+ERROR = re.compile(r'^(?:(\S+): )?error(?:\[[\w-]+\])?: (?:`([^`]+)`: )?(.*)$', re.M)
 PLACE = re.compile(r'/crates/(\w+)/(specs|proofs)/(\w+?)(?:Copy(\d+))?\.antt:\d+:\d+')
-USED = re.compile(r'^(use Rattle·(\w+?)(?:·specs|·proofs)?\.(specs|proofs)\.(\w+))\.\{(.*)\}$', re.M)
+USED = re.compile(r'^(use Rattle\.(\w+)\.(specs|proofs)\.(\w+))\.\{(.*)\}$', re.M)
 # A module that is named in another way could not be given the name of a copy.
-STRAY = re.compile(r'^(?!use Rattle·\S+\.\{[^{}]*\}$).*Rattle·', re.M)
+STRAY = re.compile(r'^(?!use Rattle\.\S+\.\{[^{}]*\}$).*Rattle\.', re.M)
 DECLARED = re.compile(r' *(?:(?:pub|abbrev|unfoldable|data|record) )*([^\s(){}]+)(?: :(?: |$)| \(.*\) : Type)')
 LAW = re.compile(r'^ *(?:pub )?(\S+) :(?: |$)', re.M)
-FALSE = 'never-shown'
-CANARY = f'\n\n{FALSE} : (A : Type 0) → A\n{FALSE} A = nothing-that-is-there\n'
+FALSE = 'never_shown'
+CANARY = f'\n\n{FALSE} : (A : Type 0) → A\n{FALSE} A = nothing_that_is_there\n'
 
 
 class Fault(Exception):
@@ -80,16 +79,17 @@ def crates_with_definitions():
 
 def declarations(text):
     """The lines of a source file that declare modules and types, with what each type needs from elsewhere."""
-    kept, uses, inside = [], [], False
+    kept, derived, inside = [], [], False
     for line in text.splitlines():
         if inside or re.match(r'(pub )?(mod|struct|enum)\b', line):
-            kept.append(line)
+            kept += [*derived, line]
             inside = line != '}' and (inside or line.endswith('{'))
-        elif re.match(r'(pub )?use [\w:]+::[A-Z]\w*;', line):
-            uses.append(line)
-    # A use that is not passed on is kept where a type names it: the prover refuses one without need.
-    body = '\n'.join(kept)
-    needed = [use for use in uses if use.startswith('pub') or re.search(r'\b%s\b' % use[:-1].split('::')[-1], body)]
+        derived = [line] if line.startswith('#[derive(') else []
+    body, needed = '\n'.join(kept), []
+    for public, path, names in re.findall(r'^(pub )?use ([\w:]+)::(\w+|\{[^{}]*\});', text, re.M):
+        types = [name for name in re.findall(r'\w+', names) if re.match('[A-Z].*[a-z]', name)]
+        # A use that is not passed on is kept where a type names it: the prover refuses one without need.
+        needed += [f'{public}use {path}::{name};' for name in types if public or re.search(rf'\b{name}\b', body)]
     return '\n'.join(needed + kept) + '\n'
 
 
@@ -113,8 +113,8 @@ def part(text, wanted):
     left = []
     for line in uses:
         module, _, names = line.rstrip('}').partition('.{')
-        # A name with marks for its arguments is also used where what stands between the marks is.
-        names = [name for name in names.split(', ') if name in needed or all(piece in needed for piece in name.split('_') if piece)]
+        # A name with marks for its arguments is also used where what stands between the marks is. Without names a module gives its own.
+        names = [name for name in names.split(', ') if name in needed or all(piece in needed for piece in name.split('◌') if piece)]
         if names:
             left.append(f"{module}.{{{', '.join(names)}}}")
     return '\n\n'.join(['\n'.join(left), *(blocks[at] for at in sorted(kept))]) + '\n'
@@ -217,9 +217,8 @@ def ask_prover(words):
     if not program:
         sys.exit('rt is missing: install the Rattle toolchain')
     kit = pathlib.Path(program).resolve().parent.parent
-    own = kit / 'on' / platform.machine()
-    # The kit's library std is left out: types and laws need nothing of it, and to load it takes longer than most checks.
-    command = [own / 'bin/rattle', 'check', '--antt-project', kit / 'logic/antt-project.json', '--logic-built', own / 'logic-built', *words]
+    command = [kit / 'bin/rattle', 'check', *words, '--extern', f'std={kit}/rlibs/std.rlib', '-L', f'dependency={kit}/rlibs']
+    command += ['--antt-project', kit / 'rattle/logic/antt-project.json', '--logic-built', kit / 'logic_built']
     try:
         done = subprocess.run([str(word) for word in command], stdout=subprocess.PIPE, stderr=subprocess.STDOUT, timeout=900)
         return done.stdout.decode('utf-8', 'replace'), done.returncode
@@ -238,7 +237,7 @@ def check(modules, texts):
         top.write_text('', encoding='utf-8')
         words = ['--crate-name', 'top', top]
         for crate, uses in modules.crates.items():
-            words += ['--lib', f"{crate}:{','.join(uses)}={folder}/crates/{crate}/src/lib.rt"]
+            words += ['--lib', f"{crate}:{','.join(['std', *uses])}={folder}/crates/{crate}/src/lib.rt"]
         report, status = ask_prover(words)
     if status != 1 or not report.endswith('\nlogic=not-proved\n'):
         raise Fault(f'the prover gives no verdict: {report[-300:]}')
