@@ -36,11 +36,11 @@ unfolding domain_bit
 domain_bits = (refl, refl, refl)
 
 -- how many domains, of sixteen
-pub domains_counted :
+pub domain_counts :
     (map domain_count bits ≡ map (λ (s : ℕ). 1) sixteen)
     × (map domain_count (0 ∷ 3 ∷ 7 ∷ 170 ∷ 32769 ∷ 65535 ∷ 65536 ∷ []) ≡ 0 ∷ 2 ∷ 3 ∷ 4 ∷ 2 ∷ 16 ∷ 0 ∷ [])
 unfolding ones_in
-domains_counted = (refl, refl)
+domain_counts = (refl, refl)
 
 -- each bit set in an empty field and cleared in a full one; bits about a field of both bytes; a number past the last domain changes nothing
 pub bits_changed :
