@@ -39,7 +39,7 @@ HERE = pathlib.Path(__file__).resolve().parent
 ROOT = HERE.parent
 WORKERS = 2
 # How many misreadings one run of the prover tries at most.
-TOGETHER = 100
+TOGETHER = 200
 # What the prover says where a fact fails, as in refused.py.
 FACT = (
     'the two types',
@@ -112,10 +112,12 @@ def part(text, wanted):
         needed.update(*(words[at] for at in more))
     left = []
     for line in uses:
-        module, _, names = line.rstrip('}').partition('.{')
-        # A name with marks for its arguments is also used where what stands between the marks is. Without names a module gives its own.
+        module, braces, names = line.rstrip('}').partition('.{')
+        # A name with marks for its arguments is also used where what stands between the marks is.
         names = [name for name in names.split(', ') if name in needed or all(piece in needed for piece in name.split('◌') if piece)]
-        if names:
+        if not braces:  # a module, for names that are written with it before them
+            left += [line] if module.rpartition('.')[2] in needed else []
+        elif names:
             left.append(f"{module}.{{{', '.join(names)}}}")
     return '\n\n'.join(['\n'.join(left), *(blocks[at] for at in sorted(kept))]) + '\n'
 
