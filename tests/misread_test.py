@@ -13,65 +13,65 @@ import misread
 # Refused by their laws: where these do not count, nothing is shown by those that do not.
 SOUND = """
 # COUNTS: a call that nothing refuses is answered 1.
-law: first-met
+law: first_met
 file: crates/rules/specs/Refusals.antt
 old: first [] = 0
 new: first [] = 1
 
 # COUNTS: there are seventeen domains, and bit s is domain s + 1.
-law: bits-changed
+law: bits_changed
 file: crates/rules/specs/Domains.antt
-old: isDomain s = ltb s 16
-new: isDomain s = ltb s 17
+old: is_domain s = ltb s 16
+new: is_domain s = ltb s 17
 old: (2 ^ s) 0
 new: (2 ^ (s - 1)) 0
 
 # COUNTS: no mask is refused for being empty.
-law: given-number
+law: given_number
 file: crates/rules/specs/Registers.antt
-old: (isEmptyMask r bits ⇒ 19) ∷ []
+old: (is_empty_mask r bits ⇒ 19) ∷ []
 new: []
 """
 # What is due of each stands before the colon.
 UNFIT = r"""
-# first-met does not refuse it: only a comment is changed.
-law: first-met
+# first_met does not refuse it: only a comment is changed.
+law: first_met
 file: crates/rules/specs/Refusals.antt
 old: -- RULES 2.3, 5.8: the number
 new: -- the number
 
-# first-met does not refuse it: the same in other words.
-law: first-met
+# first_met does not refuse it: the same in other words.
+law: first_met
 file: crates/rules/specs/Refusals.antt
 old: pick met number (first rest)
 new: pick met (pick met number 0) (first rest)
 
-# domains-held does not refuse it: what it rests on is changed where it does not look.
-law: domains-held
+# domains_held does not refuse it: what it rests on is changed where it does not look.
+law: domains_held
 file: crates/rules/specs/Domains.antt
-old: isDomain s = ltb s 16
-new: isDomain s = ltb s 300
+old: is_domain s = ltb s 16
+new: is_domain s = ltb s 300
 
-# of what it rests on, given-number, not-empty does: the law itself only uses what failed.
-law: mask-number-exactly
+# of what it rests on, given_number, not_empty does: the law itself only uses what failed.
+law: mask_number_exactly
 file: crates/rules/specs/Registers.antt
-old: (isEmptyMask r bits ⇒ 19) ∷ []
+old: (is_empty_mask r bits ⇒ 19) ∷ []
 new: []
 
 # no definition any more: it has no type.
-law: first-met
+law: first_met
 file: crates/rules/specs/Refusals.antt
 old: first [] = 0
 new: first [] = true
 
 # no definition any more: a name that is not there.
-law: first-met
+law: first_met
 file: crates/rules/specs/Refusals.antt
 old: first [] = 0
 new: first [] = nought
 
 # no definition any more: it cannot be read.
-law: first-met
+law: first_met
 file: crates/rules/specs/Refusals.antt
 old: first [] = 0
 new: first [] = ((
@@ -79,49 +79,49 @@ new: first [] = ((
 # does not refuse it: the definition has another name, so that the law is about nothing.
 law: levels
 file: crates/rules/specs/Domains.antt
-old: abbrev pub isNotLower : Prevailing → ℕ → Bool\nisNotLower Absent s = true\nisNotLower (At domain) s = leb s domain
-new: abbrev pub isNotHigher : Prevailing → ℕ → Bool\nisNotHigher Absent s = true\nisNotHigher (At domain) s = leb s domain
+old: abbrev pub is_not_lower : Prevailing → ℕ → Bool\nis_not_lower Absent s = true\nis_not_lower (At domain) s = leb s domain
+new: abbrev pub is_not_higher : Prevailing → ℕ → Bool\nis_not_higher Absent s = true\nis_not_higher (At domain) s = leb s domain
 
 # stands 0 times: there is no such text.
-law: first-met
+law: first_met
 file: crates/rules/specs/Refusals.antt
 old: first [] = 7
 new: first [] = 1
 
 # stands 2 times: the text is not the only one.
-law: first-met
+law: first_met
 file: crates/rules/specs/Refusals.antt
 old: pick met
-new: pick not-met
+new: pick not_met
 old: a b
 new: b a
 
 # has no definition that the law is about: the law does not rest on that file.
-law: first-met
+law: first_met
 file: crates/rules/specs/Domains.antt
-old: isDomain s = ltb s 16
-new: isDomain s = ltb s 17
+old: is_domain s = ltb s 16
+new: is_domain s = ltb s 17
 
 # has no definition that the law is about: the law's own statement is changed.
-law: first-met
+law: first_met
 file: crates/rules/proofs/Pinned.antt
 old: ≡ 0 ∷ 4 ∷ 4 ∷ 5 ∷ 0 ∷ 4 ∷ 5 ∷ []
 new: ≡ 1 ∷ 4 ∷ 4 ∷ 5 ∷ 0 ∷ 4 ∷ 5 ∷ []
 
 # has no definition that the law is about: code is changed.
-law: first-met
+law: first_met
 file: crates/rules/src/decisions.rt
 old: return 19;
 new: return 18;
 
 # names a module in a line: such a name would stay that of the unchanged module.
-law: first-met
+law: first_met
 file: crates/rules/specs/Refusals.antt
-old: use Prim.Native.Nat.{ℕ}
-new: use Prim.Native.Nat.{ℕ}\nuse Rattle·rules·specs.specs.Registers as registers
+old: Bool, true, false, List, [], ◌∷◌}
+new: Bool, true, false, List, [], ◌∷◌}\nuse Rattle.rules.specs.Registers as registers
 
 # there is no law: nobody has stated it.
-law: first-met-never
+law: first_met_never
 file: crates/rules/specs/Refusals.antt
 old: first [] = 0
 new: first [] = 1
@@ -138,7 +138,7 @@ old: first [] = 0
 new: first [] = 1
 
 # an entry says: nothing is changed.
-law: first-met
+law: first_met
 """
 
 
@@ -166,7 +166,7 @@ class Recorded:
 
 
 # What the prover may say that is not to be believed: then no entry counts.
-FALSE = re.compile(r'^\S+: error: `never-shown`.*\n', re.M)
+FALSE = re.compile(r'^\S+: error: `never_shown`.*\n', re.M)
 UNBELIEVED = {
     'the verdict is missing': lambda report, status: (report.replace('logic=not-proved\n', ''), status),
     'something follows the verdict': lambda report, status: (report + 'stopped\n', status),
@@ -174,7 +174,7 @@ UNBELIEVED = {
     'the prover was too slow': lambda report, status: (report, None),
     'all is proved': lambda report, status: (report, 0),
     'no false declaration is reported': lambda report, status: (FALSE.sub('', report), status),
-    'something else of the unchanged copies is refused': lambda report, status: (FALSE.sub(lambda line: line[0] + line[0].replace('never-shown', 'bits'), report), status),
+    'something else of the unchanged copies is refused': lambda report, status: (FALSE.sub(lambda line: line[0] + line[0].replace('never_shown', 'bits'), report), status),
     'a module that was not copied is refused': lambda report, status: (FALSE.sub(lambda line: line[0] + re.sub(r'Copy\d+', '', line[0]), report), status),
     'an error has no place': lambda report, status: ('error: out of memory\n' + report, status),
     'no error is a fact that fails': lambda report, status: (re.sub(r'(error: `[^`]*`: ).*', r'\1not in scope', report), status),
