@@ -56,7 +56,7 @@ ERROR = re.compile(r'^(?:(\S+): )?error(?:\[[\w-]+\])?: (?:`([^`]+)`: )?(.*)$', 
 PLACE = re.compile(r'/crates/(\w+)/(specs|proofs)/(\w+?)(?:Copy(\d+))?\.antt:\d+:\d+')
 USED = re.compile(r'^(use Rattle\.(\w+)\.(specs|proofs)\.(\w+))\.\{(.*)\}$', re.M)
 # A module that is named in another way could not be given the name of a copy.
-STRAY = re.compile(r'^(?!use Rattle\.\S+\.\{[^{}]*\}$).*Rattle\.', re.M)
+STRAY = re.compile(r'^(?!use Rattle\.\S+\.\{[^{}]*\}$).*Rattle\.\w', re.M)
 DECLARED = re.compile(r' *(?:(?:pub|abbrev|unfoldable|data|record) )*([^\s(){}]+)(?: :(?: |$)| \(.*\) : Type)')
 LAW = re.compile(r'^ *(?:pub )?(\S+) :(?: |$)', re.M)
 FALSE = 'never_shown'
@@ -219,6 +219,7 @@ def ask_prover(words):
     if not program:
         sys.exit('rt is missing: install the Rattle toolchain')
     kit = pathlib.Path(program).resolve().parent.parent
+    # Definitions use the prelude of the kit's library std, so that is loaded, as it was built.
     command = [kit / 'bin/rattle', 'check', *words, '--extern', f'std={kit}/rlibs/std.rlib', '-L', f'dependency={kit}/rlibs']
     command += ['--antt-project', kit / 'rattle/logic/antt-project.json', '--logic-built', kit / 'logic_built']
     try:

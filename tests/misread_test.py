@@ -1,7 +1,7 @@
 #!/usr/bin/env python3
 """Tests misread.py: entries that must not count, and reports of the prover that must not be believed, each beside entries that do count.
 
-Usage: misread_test.py   (from anywhere; takes seconds)
+Usage: misread_test.py   (from anywhere; takes half a minute)
 """
 import pathlib
 import re
