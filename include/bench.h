@@ -114,10 +114,11 @@
 
 /*
  * How much stack a call of bench_run should find free, in bytes. It is more
- * than one and a half times the most that was measured:
+ * than one and a half times the most that was measured, with the older kit
+ * (rattle-kit-5b):
  *
- * The function itself takes 1,840: the return address, six registers and
- * 1,784 bytes of locals, as its disassembly shows (objdump -d). It calls only
+ * The function itself took 1,840: the return address, six registers and
+ * 1,784 bytes of locals, as its disassembly showed (objdump -d). It calls only
  * memcpy and memset, which puts 8 more there and what these two take. On a
  * stack filled with a pattern a call took 1,848, with glibc 2.36. Where a
  * program is linked so that memcpy and memset are looked up when they are
