@@ -41,8 +41,13 @@ SHAPE = ('that can be named from here', 'not in scope', 'has no field', 'has no 
 NAMES = re.compile(r'^# Refused: (.+)$', re.M)
 OUTCOME = re.compile(r'(?:fn|struct|enum|trait|impl) (\S+): ')
 # A place, or a goal, that an answer names and that is not there, and what is there in its place.
-NO_PLACE = re.compile(r'^(\S+\.antt):\d+:\d+: error: .* has no field `if-([^`]+)` \(nearest: ([^)]*)\)', re.M)
-NO_GOAL = re.compile(r'^fn (\S+): not proved.*\nhelp: `Goals` has no `([^`]+)`; rattle asks for ((?:`[^`]+`(?:, )?)+)', re.M)
+GONE = (
+    re.compile(r'^\./(\S+)/\w+\.antt:\d+:\d+: error: .* has no field `([^`]+)` \(nearest: ([^)]*)\)', re.M),
+    re.compile(r'^\./(\S+)/\w+\.antt:\d+:\d+: error: .*\.Goals` has no `([^`]+)` that can be named from here \(did you mean ([^)]*)\?\)', re.M),
+)
+NO_GOAL = re.compile(r'^fn \w+::(\S+): not proved.*\nhelp: `Goals` has no `([^`]+)`; rattle asks for ((?:`[^`]+`(?:, )?)+)', re.M)
+# What of such a name is of the condition, and what stands before it.
+CONDITION = re.compile(r'(|.*-)(if|then|else)-(.+)')
 UNPROVED = '`search` did not prove'
 FALSE = 'allow values at which this goal is false'
 
@@ -107,29 +112,26 @@ def edited(edit, crate):
 
 def respell(log, crate):
     """Puts the names that conditions of the edited code have into the answers that name them as before; whether there are any."""
-    renamed = {}
-    for file, old, nearest in NO_PLACE.findall(log):
-        names = [name.strip().removeprefix('.if-') for name in nearest.split(',') if name.strip().startswith('.if-')]
-        renamed.setdefault(crate / pathlib.Path(file).parent, {})[old] = names
-    for function, old, asked in NO_GOAL.findall(log):
-        for folder in crate.glob(f'proofs/**/{function.split("::")[-1]}/'):
-            # The goal that is named alike: as far as its name is the same, it is so for the same way through the code.
-            names = sorted(re.findall('`([^`]+)`', asked), key=lambda name: -len(os.path.commonprefix([name, old])))
-            renamed.setdefault(folder, {}).setdefault(old, names[:1])
+    found = [place for form in GONE for place in form.findall(log)]
+    found += [(f'proofs/{function.replace("::", "/")}', old, asked) for function, old, asked in NO_GOAL.findall(log)]
     changed = False
-    for folder, names in renamed.items():
-        files = {file: file.read_text(encoding='utf-8') for file in folder.glob('*.antt')}
-        whole = ' '.join(files.values())
-        for old, found in names.items():
-            # What the answers name already is another place.
-            new = next((name for name in found if not re.search(rf'(?<![\w-])(?:if-)?{re.escape(name)}(?![\w-])', whole)), None)
-            if new:
-                changed = True
-                for file in files:
-                    files[file] = re.sub(rf'(?<!\w){re.escape(old)}(?![\w-])', new, files[file])
-        for file, text in files.items():
-            file.unlink()
-            file.write_text(text, encoding='utf-8')
+    for folder, old, others in found:
+        files = {file: file.read_text(encoding='utf-8') for file in (crate / folder).glob('*.antt')}
+        for new in re.findall(r'[^`.,\s]+', others):
+            parts = CONDITION.fullmatch(old), CONDITION.fullmatch(new)
+            if not all(parts) or parts[0].groups()[:2] != parts[1].groups()[:2]:
+                continue
+            before, after = parts[0][3], parts[1][3]
+            # A name that the answers have already is that of another condition.
+            if any(re.search(rf'(?<!\w){re.escape(after)}(?![\w-])', text) for text in files.values()):
+                continue
+            for file, text in files.items():
+                respelled = re.sub(rf'(?<!\w){re.escape(before)}(?![\w-])', after, text)
+                if respelled != text:
+                    changed = True
+                    file.unlink()
+                    file.write_text(respelled, encoding='utf-8')
+            break
     return changed
 
 
