@@ -259,8 +259,8 @@ class Sources:
 
     def has_name(self, name):
         """Whether a name is there: a word, a crate's or a type's, a value's field."""
-        # What the prover makes of a function's code is named by `goal` and, in proofs by hand, by `tie`.
-        if name in FOREIGN_NAMES or name.startswith(('goal.', 'tie.')):
+        # What the prover makes of a function's code is named by `goal`, `c` and `l` in answers, and by `tie` in proofs by hand.
+        if name in FOREIGN_NAMES or name.startswith(('goal.', 'c.', 'l.', 'tie.')):
             return True
         if '::' in name:
             return self.has_qualified(name.split('::'))

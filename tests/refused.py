@@ -9,8 +9,11 @@ check of the copy says, this counts:
 - A function is refused by itself where `search` does not prove one of its goals, where rattle finds values at which one is false, or where an
   error stands in its own proof files that says that a fact fails: two sides that differ, a goal that does not follow, one that no search
   proves, or one without the term that an equation of the proof rewrites. That a function which it calls is not proved does not count, and
-  where an answer only no longer fits the code's shape nothing of that file does: it names a goal or a place that the edit took away.
+  where an answer no longer fits the code's shape nothing of that file does: it names a goal or a place that is not there.
 - A law is refused by itself where such an error stands in it.
+
+Rattle names goals and places after the conditions of the code (`if-size-gt4`). Where the edit changes a condition, its new name is put into the
+answers that have the old one, and the copy is checked once more: what counts is what these answers then fail to show.
 """
 import concurrent.futures
 import os
@@ -28,7 +31,8 @@ FACT = (
     'the two indices',
     'expected type',
     'give a proof of that as the last argument',
-    'the goal does not follow',
+    'does not follow',
+    'found no proof',
     'the missing equation',
     'no proof of',
     'no occurrence of',
@@ -37,6 +41,14 @@ FACT = (
 SHAPE = ('that can be named from here', 'not in scope', 'has no field', 'has no `')
 NAMES = re.compile(r'^# Refused: (.+)$', re.M)
 OUTCOME = re.compile(r'(?:fn|struct|enum|trait|impl) (\S+): ')
+# A place, or a goal, that an answer names and that is not there, and what is there in its place.
+GONE = (
+    re.compile(r'^\./(\S+)/\w+\.antt:\d+:\d+: error: .* has no field `([^`]+)` \(nearest: ([^)]*)\)', re.M),
+    re.compile(r'^\./(\S+)/\w+\.antt:\d+:\d+: error: .*\.Goals` has no `([^`]+)` that can be named from here \(did you mean ([^)]*)\?\)', re.M),
+)
+NO_GOAL = re.compile(r'^fn \w+::(\S+): not proved.*\nhelp: `Goals` has no `([^`]+)`; rattle asks for ((?:`[^`]+`(?:, )?)+)', re.M)
+# What of such a name is of the condition, and what stands before it.
+CONDITION = re.compile(r'(|.*-)(if|then|else)-(.+)')
 UNPROVED = '`search` did not prove'
 FALSE = 'allow values at which this goal is false'
 
@@ -99,6 +111,31 @@ def edited(edit, crate):
     return lost
 
 
+def respell(log, crate):
+    """Puts the names that conditions of the edited code have into the answers that name them as before; whether there are any."""
+    found = [place for form in GONE for place in form.findall(log)]
+    found += [(f'proofs/{function.replace("::", "/")}', old, asked) for function, old, asked in NO_GOAL.findall(log)]
+    changed = False
+    for folder, old, others in found:
+        files = {file: file.read_text(encoding='utf-8') for file in (crate / folder).glob('*.antt')}
+        for new in re.findall(r'[^`.,\s]+', others):
+            parts = CONDITION.fullmatch(old), CONDITION.fullmatch(new)
+            if not all(parts) or parts[0].groups()[:2] != parts[1].groups()[:2]:
+                continue
+            before, after = parts[0][3], parts[1][3]
+            # A name that the answers have already is that of another condition.
+            if any(re.search(rf'(?<!\w){re.escape(after)}(?![\w-])', text) for text in files.values()):
+                continue
+            for file, text in files.items():
+                respelled = re.sub(rf'(?<!\w){re.escape(before)}(?![\w-])', after, text)
+                if respelled != text:
+                    changed = True
+                    file.unlink()
+                    file.write_text(respelled, encoding='utf-8')
+            break
+    return changed
+
+
 def keeps(one, other):
     """Gives what was proved a second name where that can be: a check makes such a file anew, and changes none."""
     if '/out/rlib/' in one or one.endswith('.oantt'):
@@ -116,8 +153,8 @@ def check(folder, jobs):
     return ran.returncode, ran.stdout
 
 
-def attempt(edit, crate, lines):
-    """Checks a copy of the crate with the edit in it; what says why it did not come to that, and what the check says."""
+def attempt(edit, crate, lines, names):
+    """Checks a copy of the crate with the edit in it; what says why it did not come to that, and what of these names was not refused by itself."""
     with tempfile.TemporaryDirectory(prefix='refused-') as room:
         room, copied = pathlib.Path(room), [crate, *below(lines, crate)]
         (room / 'crates.txt').write_text(''.join(f'{lines[name]}\n' for name in copied), encoding='utf-8')
@@ -127,13 +164,17 @@ def attempt(edit, crate, lines):
                     shutil.copytree(ROOT / 'crates' / name / part, room / 'crates' / name / part, copy_function=keeps)
         lost = edited(edit, room / 'crates' / crate)
         if lost:
-            return f'cannot be applied: {"; ".join(lost)}', ''
+            return f'cannot be applied: {"; ".join(lost)}', []
         status, log = check(room / 'crates' / crate, ['--jobs', '1'])
         if status == 0:
-            return 'was not refused', ''
+            return 'was not refused', []
         if not re.search(r'^fn ', log, re.M):
-            return f'did not reach the prover:\n{log[:1000]}', ''
-        return '', log
+            return f'did not reach the prover:\n{log[:1000]}', []
+        left = [name for name in names if not refused(log, name)]
+        if left and respell(log, room / 'crates' / crate):
+            _, log = check(room / 'crates' / crate, ['--jobs', '1'])
+            left = [name for name in left if not refused(log, name)]
+        return '', left
 
 
 def main():
@@ -148,22 +189,17 @@ def main():
             proved[crate] = status == 0
             if status:
                 print('\n'.join(line[:300] for line in log.split('\n')[-12:]))
-    named = missed = 0
+    names = {edit: found[1].split() if (found := NAMES.search(edit.read_text(encoding='utf-8'))) else [] for edit in edits}
+    named, missed = sum(len(found) for found in names.values()), 0
     with concurrent.futures.ThreadPoolExecutor(WORKERS) as pool:
-        attempts = [pool.submit(attempt, edit, edit.parts[-3], lines) if proved.get(edit.parts[-3]) else None
-                    for edit in edits]
-        for edit, made in zip(edits, attempts):
-            label = f'{edit.parts[-3]}/{edit.stem}'
-            names = NAMES.search(edit.read_text(encoding='utf-8'))
-            why, log = made.result() if made else ('was not tried, since its crate is not proved', '')
-            if why or not names:
-                missed += 1
-                print(f'{label} {why or "names nothing that refuses it"}', flush=True)
-            for name in names[1].split() if names else ():
-                named += 1
-                if not why and not refused(log, name):
-                    missed += 1
-                    print(f'{label}: {name} was not refused by itself', flush=True)
+        attempts = {edit: pool.submit(attempt, edit, edit.parts[-3], lines, names[edit]) for edit in edits if proved.get(edit.parts[-3])}
+        for edit in edits:
+            why, left = attempts[edit].result() if edit in attempts else ('was not tried, since its crate is not proved', [])
+            if not names[edit]:
+                why = why or 'names nothing that refuses it'
+            missed += len(left) + bool(why)
+            for told in ([why] if why else []) + [f'{name} was not refused by itself' for name in left]:
+                print(f'{edit.parts[-3]}/{edit.stem}: {told}', flush=True)
     print(f'{named} functions and laws named by the edits, {missed} of them or of the edits not refused by themselves')
     return 1 if missed or not named else 0
 
