@@ -191,15 +191,15 @@ long_run = refl
 
 -- after each refusal of a load that one answer is all there is
 pub refused_runs :
-    let with-entry : List ℕ → List ℕ = λ image. 0x00 ∷ 0x2C ∷ (image ++ (0x05 ∷ 0x00 ∷ 0x00 ∷ 0x00 ∷ 0x00 ∷ 0x00 ∷ [])) in
+    let with_entry : List ℕ → List ℕ = λ image. 0x00 ∷ 0x2C ∷ (image ++ (0x05 ∷ 0x00 ∷ 0x00 ∷ 0x00 ∷ 0x00 ∷ 0x00 ∷ [])) in
     map answers_of
     ((0x00 ∷ 0x00 ∷ 0x05 ∷ 0x00 ∷ 0x00 ∷ 0x00 ∷ 0x00 ∷ 0x00 ∷ [])
-    ∷ with-entry (set sample_bytes 0 2)
-    ∷ with-entry (set sample_bytes 3 0x13)
-    ∷ with-entry (set sample_bytes 21 1)
-    ∷ with-entry (set sample_bytes 9 0x17)
-    ∷ with-entry (set sample_bytes 38 2)
-    ∷ with-entry sample_bytes
+    ∷ with_entry (set sample_bytes 0 2)
+    ∷ with_entry (set sample_bytes 3 0x13)
+    ∷ with_entry (set sample_bytes 21 1)
+    ∷ with_entry (set sample_bytes 9 0x17)
+    ∷ with_entry (set sample_bytes 38 2)
+    ∷ with_entry sample_bytes
     ∷ [])
     ≡ (20 ∷ []) ∷ (21 ∷ []) ∷ (22 ∷ []) ∷ (23 ∷ []) ∷ (24 ∷ []) ∷ (25 ∷ []) ∷ (0 ∷ 0 ∷ []) ∷ []
 unfolding sample_bytes call_steps steps_from calls_of call_of_kind step_by load_of load_checks length_tests kind_tests shape_entry_tests shape_tests body_tests describe machine_of call_of checks_of effect_of entered after is_sound

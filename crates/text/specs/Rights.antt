@@ -26,10 +26,10 @@ abbrev pub refused_line : ℕ → List ℕ
 refused_line refused = letters "refused" ++ column (decimal_of refused) ++ letters "\n"
 
 -- RULES 13.4, 13.5: the text of numbers: those of all sixteen domains, the totals, those refused
-unfoldable pub numbers_text : (reads writes : ℕ → ℕ) (readTotal writeTotal refused : ℕ) → List ℕ
-numbers_text reads writes readTotal writeTotal refused =
+unfoldable pub numbers_text : (reads writes : ℕ → ℕ) (read_total write_total refused : ℕ) → List ℕ
+numbers_text reads writes read_total write_total refused =
     domain_lines reads writes 0 16
-    ++ total_line readTotal writeTotal
+    ++ total_line read_total write_total
     ++ refused_line refused
 
 -- RULES 13.4, 13.5: the text of images

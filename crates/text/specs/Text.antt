@@ -1,7 +1,7 @@
 -- What `pagerun` prints (RULES, section 8).
 use Rattle.std.specs.Prelude.{ℕ, ◌+◌, ◌/◌, ◌%◌, List, [], ◌∷◌, ◌++◌, eqb, leb, length}
 use Prim.Native.Char.{code}
-use Prim.Native.String.{String, [] as noLetters, ◌∷◌ as ◌then◌}
+use Prim.Native.String.{String, [] as no_letters, ◌∷◌ as ◌then◌}
 use Rattle.rules.specs.Refusals.{pick}
 use Rattle.machine.specs.declared.record.Report.{Report}
 use Rattle.machine.specs.declared.record.Report.TheVariants.{Nothing, Denied, Through}
@@ -9,7 +9,7 @@ use Rattle.run.specs.Run.{call_bytes, call_answers, call_reports, is_long, loade
 
 -- a text as its bytes
 abbrev pub letters : String → List ℕ
-letters noLetters = []
+letters no_letters = []
 letters (letter then rest) = code letter ∷ letters rest
 
 -- RULES 8.1: the digit of n that counts a power of ten; none where n is smaller, so that no zeros stand in front
