@@ -1,5 +1,5 @@
 -- `cases::writing::print_writing`: the parts of the case that it hands to the rounds are its image and its call bytes, and the buffers are as long as its room.
-use Rattle.std.proofs.Common.{◌≡◌, ◌≤◌, length, length-take-le, take, arith}
+use Rattle.std.proofs.Common.{◌≡◌, length, length-take-le, take, arith}
 use Rattle.image.proofs.Stored.{part_from}
 use Rattle.run.proofs.Parts.{take_least, drop_least}
 use Rattle.cases.specs.Writing.{rewritten_of}
