@@ -36,8 +36,8 @@ rights:
 	$(writable)
 	$(if $(IMAGES),,$(error which images? make rights IMAGES=FOLDER))
 	@tools/progress.sh rights tools/program.sh rightsum >&2
-	@tools/pairs.sh "$(IMAGES)" >target/site
-	@crates/rightsum/out/rightsum <target/site
+	@tools/pairs.sh "$(IMAGES)" >target/rights.site
+	@crates/rightsum/out/rightsum <target/rights.site
 
 lib: target/staticlib/librun.a
 	@echo "target/staticlib/librun.a, to be used with include/bench.h"
