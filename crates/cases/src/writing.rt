@@ -142,6 +142,7 @@ fn make_calls(rt: &impl Print, start: Machine, calls: &[u8]) -> io::Result<Machi
 }
 
 // Loads an image and makes the calls where it loads, prints the answers, and gives the machine that is then held.
+#[tactic(auto, unfolding(crate::specs::Writing::held_of))]
 fn hold(rt: &impl Print, bytes: &[u8], calls: &[u8]) -> io::Result<Machine>
     ensures { IfOk result (λ machine. machine ≡ held_of bytes.now calls.now) }
 {
