@@ -4,7 +4,9 @@
 
 pub mod decisions;
 pub mod domains;
+pub mod refusals;
 pub mod registers;
 
 pub use domains::Prevailing;
+pub use refusals::{Refusal, number_of};
 pub use registers::{Masked, Mode, Registers};
