@@ -246,6 +246,7 @@ impl Machine {
     }
 
     // Access to one byte or two from an address on, for a right (RULES 3.2, 3.3).
+    #[tactic(auto, using(crate::proofs::Answers::call_checked, crate::proofs::LentParts::access_own))]
     pub fn access(self, width: Width, right: u8, address: u32) -> Answered
         ensures { result ≡ call_of self (Call.Access width right address) }
     {
@@ -293,6 +294,7 @@ impl Machine {
     }
 
     // The grant or the revocation by value.
+    #[tactic(auto, using(crate::proofs::Answers::call_checked, crate::proofs::LentParts::change_alone))]
     fn change(self, granting: bool, right: u8, page: Page, domain: Domain) -> Answered
         ensures { result ≡ call_of self (change_call granting right page domain) }
     {
@@ -326,6 +328,7 @@ impl Machine {
     }
 
     // The mask command (RULES 3.8, 3.9). `set_mask_lent` is the one on a register record.
+    #[tactic(auto, using(crate::proofs::Answers::call_checked))]
     pub fn set_mask(self, mask: u16) -> Answered
         ensures { result ≡ call_of self (Call.SetMask mask) }
     {
@@ -354,6 +357,7 @@ impl Machine {
     }
 
     // Interrupt entry (RULES 3.10, 3.11).
+    #[tactic(auto, using(crate::proofs::Answers::call_checked))]
     pub fn enter(self) -> Answered
         ensures { result ≡ call_of self Call.Enter }
     {
@@ -385,6 +389,7 @@ impl Machine {
     }
 
     // Return from an interrupt (RULES 3.12, 3.13).
+    #[tactic(auto, using(crate::proofs::Answers::call_checked))]
     pub fn leave(self) -> Answered
         ensures { result ≡ call_of self Call.Return }
     {
@@ -473,6 +478,7 @@ impl Machine {
     }
 
     // The kernel's store of a field (RULES 3.16, 3.17).
+    #[tactic(auto, using(crate::proofs::Answers::call_checked, crate::proofs::LentParts::store_alone))]
     pub fn store_field(self, right: u8, page: Page, bits: u16) -> Answered
         ensures { result ≡ call_of self (Call.StoreField right page bits) }
     {
@@ -494,6 +500,7 @@ impl Machine {
     }
 
     // The kernel's store of the global context (RULES 3.18, 3.19).
+    #[tactic(auto, using(crate::proofs::Answers::call_checked))]
     pub fn store_context(self, bits: u16) -> Answered
         ensures { result ≡ call_of self (Call.StoreContext bits) }
     {
@@ -513,6 +520,7 @@ impl Machine {
     }
 
     // The kernel's store of the mask (RULES 3.20, 3.21).
+    #[tactic(auto, using(crate::proofs::Answers::call_checked))]
     pub fn store_mask(self, bits: u16) -> Answered
         ensures { result ≡ call_of self (Call.StoreMask bits) }
     {
@@ -532,6 +540,7 @@ impl Machine {
     }
 
     // The kernel's store of the mode (RULES 3.22, 3.23).
+    #[tactic(auto, using(crate::proofs::Answers::call_checked))]
     pub fn store_mode(self, mode: u16) -> Answered
         ensures { result ≡ call_of self (Call.StoreMode mode) }
     {
@@ -556,6 +565,7 @@ impl Machine {
     }
 
     // The question for the last violation (RULES 3.24, 3.25).
+    #[tactic(auto, using(crate::proofs::Answers::call_checked))]
     pub fn ask_violation(self) -> Answered
         ensures { result ≡ call_of self Call.AskViolation }
     {

@@ -4,11 +4,8 @@ use mathlib.Core.Bool.{not}
 use Rattle.machine.specs.Calls.{unchecked_of, effect_of, returned}
 use Rattle.machine.specs.declared.record.Call.TheVariants.{Return}
 use Rattle.machine.proofs.LentParts.{stack_own}
-use Rattle.machine.proofs.Answers.{sound_answers, unsound_answers}
+use Rattle.machine.proofs.Answers.{sound_answers}
 use Rattle.machine.proofs.record.Machine.leave.Goals as goal
-
-pub returns-then-not-sound : goal.returns-then-not-sound
-returns-then-not-sound c = c.unsound.ensures ∙ unsound_answers _ _ c.sound.ensures (ap not c.if-not-sound.true)
 
 pub returns : goal.returns
 unfolding unchecked_of effect_of returned
