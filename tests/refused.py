@@ -2,7 +2,7 @@
 """Checks why the prover refuses each must-fail edit: every function and law that the edit names is refused by itself.
 
 Usage: refused.py [CRATE ..]   (from anywhere; without an argument the edits of every crate)
-An edit names them in a line '# Refused: NAME ..'. `rt ci` says of an edit only what was refused first. So each is tried here once more: the
+An edit names them in a line '# Refused: NAME ..', with the type before the name (`TYPE::NAME`) where the name alone is another's too. `rt ci` says of an edit only what was refused first. So each is tried here once more: the
 crate is checked as it stands, and then, in a copy outside the repository, with the edit in it and over what that check kept. Of what the
 check of the copy says, this counts:
 
@@ -67,14 +67,14 @@ def refused(log, name):
             # What is said of the goals of a function stands right before its outcome.
             notes.append(line)
         elif outcome:
-            if line.startswith('fn ') and outcome[1].split('::')[-1] == name and not line.endswith(': proved'):
+            if line.startswith('fn ') and f'::{outcome[1]}'.endswith(f'::{name}') and not line.endswith(': proved'):
                 found = True
                 if UNPROVED in line or says(notes, (FALSE,)):
                     return True
             notes = []
     if found:
         # Functions that call each other, or one that calls itself, have a proof together, in a folder whose name starts with a +.
-        where = rf'/\+?{name}/[A-Z]\w*\.antt:\d+:\d+: error: '
+        where = rf'/\+?{name.replace("::", "/")}/[A-Z]\w*\.antt:\d+:\d+: error: '
     else:
         where = rf'/[A-Z]\w*\.antt:\d+:\d+: error: `{name}`: '
     errors = re.findall(rf'^\S*{where}(.*)', log, re.M)
