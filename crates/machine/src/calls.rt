@@ -7,7 +7,7 @@
 ghost use Rattle.std.specs.Prelude.{◌≡◌, false, ◌+◌, ◌*◌, ◌^◌, ◌/◌, leb, eqb, get_or};
 ghost use Rattle.std.specs.Int.Bits.{bit_and};
 ghost use Rattle.rules.specs.Domains.{prevailing, giving_domain, with_bit, without_bit};
-ghost use Rattle.rules.specs.Refusals.{pick, first, outcome_number, given_or};
+ghost use Rattle.rules.specs.Refusals.{pick, first};
 ghost use Rattle.rules.specs.Registers.{mode_where};
 ghost use Rattle.machine.specs.Machine.{place_of, with_fields, with_registers, with_stack};
 ghost use Rattle.machine.specs.declared.record.Call.{Call};
@@ -18,42 +18,46 @@ use crate::record::{
     Answered, Domain, Machine, Page, Program, Report, Violation, Violations, Width, page_of, place,
     store_at,
 };
+use rules::Refusal;
 use rules::decisions::{
-    check_access, check_change, check_entry, check_field_store, check_mode_store,
-    check_register_store, check_return, check_switch,
+    access_number, change_number, entry_number, field_number, mode_number, register_number,
+    return_number, switch_number,
 };
 use rules::domains::{
     giving_domain, is_not_lower, is_outside, prevailing_of, with_bit, without_bit,
 };
-use rules::refusals::{Refusal, outcome_number};
 use rules::registers::{Mode, Registers, replace_mask};
+
+// The one number of a refusal that changes the machine (RULES 2.5).
+const VIOLATION: u8 = Refusal::Violation as u8;
+
+// The new value where a call was accepted, else the old one.
+fn chosen(done: bool, new: u16, old: u16) -> u16
+    ensures { result ≡ pick done new old }
+{
+    if done { new } else { old }
+}
+
+// A number behind the test for 1 (RULES 2.4).
+fn checked(unsound: bool, number: u8) -> u8
+    ensures { result ≡ pick unsound 1 number }
+{
+    if unsound {
+        Refusal::Unsound as u8
+    } else {
+        number
+    }
+}
 
 // The bits of a field after an accepted grant or revocation.
 fn changed_bits(granting: bool, field: u16, s: u16) -> u16
     ensures { result ≡ pick granting (with_bit field s) (without_bit field s) }
 {
     if granting {
-        return with_bit(field, s);
-    }
-    without_bit(field, s)
-}
-
-// An outcome behind the test for 1 (RULES 2.4).
-fn checked(unsound: bool, outcome: Result<(), Refusal>) -> Result<(), Refusal>
-    ensures { outcome_number result ≡ pick unsound 1 (outcome_number outcome) }
-{
-    if unsound {
-        Err(Refusal::Unsound)
+        with_bit(field, s)
     } else {
-        outcome
+        without_bit(field, s)
     }
-}
-
-// An outcome is a violation, which alone of the refusals changes the machine (RULES 2.5).
-fn is_violation(outcome: Result<(), Refusal>) -> bool
-    ensures { result ≡ eqb (outcome_number outcome) 9 }
-{
-    matches!(outcome, Err(Refusal::Violation))
 }
 
 // The mode that is saved at a place of a lent stack; user past its end (RULES 2.10).
@@ -140,24 +144,21 @@ fn report_through(done: bool, field: u16, local: u16) -> Report
 
 impl Answered {
     // The answer with the stack that was lent.
-    fn with_saved(self, saved: [bool; 8]) -> Answered
+    fn with_saved(mut self, saved: [bool; 8]) -> Answered
         ensures { result ≡ record { number = self.number; machine = with_stack self.machine.depth saved self.machine; report = self.report } }
     {
-        let machine = Machine {
-            saved,
-            ..self.machine
-        };
-        Answered { machine, ..self }
+        self.machine.saved = saved;
+        self
     }
 }
 
 impl Machine {
     // An answer that reports nothing (RULES 2.13).
-    fn silent(self, outcome: Result<(), Refusal>) -> Answered
-        ensures { result ≡ silent (outcome_number outcome) self }
+    fn silent(self, number: u8) -> Answered
+        ensures { result ≡ silent number self }
     {
         Answered {
-            number: outcome_number(outcome),
+            number,
             machine: self,
             report: Report::Nothing,
         }
@@ -167,36 +168,32 @@ impl Machine {
     fn unsound(self) -> Answered
         ensures { result ≡ silent 1 self }
     {
-        self.silent(Err(Refusal::Unsound))
+        self.silent(Refusal::Unsound as u8)
     }
 
-    // The answer of a call that changes the live registers alone: to those given, or to none where it is refused.
-    fn with_registers(self, outcome: Result<Registers, Refusal>) -> Answered
-        ensures { result ≡ silent (outcome_number outcome) (with_registers (given_or self.registers outcome) self) }
+    // The answer of a call on the fields that were lent, which the machine now has.
+    fn answered_with(mut self, number: u8, fields: [u16; 256]) -> Answered
+        ensures { result ≡ silent number (with_fields fields self) }
     {
-        let machine = Machine {
-            registers: outcome.unwrap_or(self.registers),
-            ..self
-        };
-        Answered {
-            number: outcome_number(outcome),
-            machine,
-            report: Report::Nothing,
-        }
+        self.fields = fields;
+        self.silent(number)
     }
 
-    // What refuses an access, from the fields that are lent.
-    fn check_access(
-        self,
-        fields: &[u16],
-        width: Width,
-        right: u8,
-        address: u32,
-    ) -> Result<(), Refusal>
-        ensures { outcome_number result ≡ first (access_checks (with_fields fields.now self) right (touched width address)) }
+    // The answer of a call that replaces the live registers where it is accepted, and changes nothing else.
+    fn with_registers_where(mut self, number: u8, registers: Registers) -> Answered
+        ensures { result ≡ silent number (with_registers (pick (eqb number 0) registers self.registers) self) }
+    {
+        let live = self.registers;
+        self.registers = live.replaced_where(number == 0, registers);
+        self.silent(number)
+    }
+
+    // The number of an access, from the fields that are lent.
+    fn number_of_access(self, fields: &[u16], width: Width, right: u8, address: u32) -> u8
+        ensures { result ≡ first (access_checks (with_fields fields.now self) right (touched width address)) }
     {
         let registers = self.registers;
-        check_access(
+        access_number(
             !(right <= 1),
             any_outside(self.pages, self.exponent, width, address),
             registers.privileged(),
@@ -218,15 +215,15 @@ impl Machine {
         ensures { result ≡ keeping self (unchecked_of (with_fields fields.now self) (Call.Access width right address)) }
     {
         let mut registers = self.registers;
-        let outcome = self.check_access(fields, width, right, address);
+        let number = self.number_of_access(fields, width, right, address);
         let mut violations = self.violations;
         let field = field_at(fields, self.exponent, right, address, 0);
         let report = report_through(
-            outcome.is_ok() & !registers.privileged(),
+            (number == 0) & !registers.privileged(),
             field,
             registers.local(),
         );
-        if is_violation(outcome) {
+        if number == VIOLATION {
             registers = registers.with_pending(true);
             violations = Violations {
                 last: Some(Violation {
@@ -239,7 +236,7 @@ impl Machine {
         self.registers = registers;
         self.violations = violations;
         Answered {
-            number: outcome_number(outcome),
+            number,
             machine: self,
             report,
         }
@@ -257,13 +254,13 @@ impl Machine {
         self.access_lent(&fields, width, right, address)
     }
 
-    // What refuses a grant or a revocation, from the field of that right to that page.
-    fn check_change(self, right: u8, page: Page, domain: Domain, field: u16) -> Result<(), Refusal>
-        ensures { outcome_number result ≡ first (change_checks self right page domain (prevailing field)) }
+    // The number of a grant or a revocation, from the field of that right to that page.
+    fn number_of_change(self, right: u8, page: Page, domain: Domain, field: u16) -> u8
+        ensures { result ≡ first (change_checks self right page domain (prevailing field)) }
     {
         let registers = self.registers;
         let prevailing = prevailing_of(field);
-        check_change(
+        change_number(
             !(right <= 1),
             !(page.0 < self.pages),
             !(domain.0 < Machine::DOMAINS),
@@ -282,15 +279,16 @@ impl Machine {
         right: u8,
         page: Page,
         domain: Domain,
-    ) -> Result<(), Refusal>
-        ensures value { outcome_number result ≡ (unchecked_of (with_fields fields.old self) (change_call granting right page domain)).number }
+    ) -> u8
+        ensures value { result ≡ (unchecked_of (with_fields fields.old self) (change_call granting right page domain)).number }
         ensures fields_after { fields.new ≡ (unchecked_of (with_fields fields.old self) (change_call granting right page domain)).machine.fields }
     {
         let at = place(right, page.0 as u32);
         let field = fields.get(at).copied().unwrap_or(0);
-        self.check_change(right, page, domain, field)?;
-        store_at(fields, at, changed_bits(granting, field, domain.0));
-        Ok(())
+        let number = self.number_of_change(right, page, domain, field);
+        let changed = changed_bits(granting, field, domain.0);
+        store_at(fields, at, chosen(number == 0, changed, field));
+        number
     }
 
     // The grant or the revocation by value.
@@ -302,8 +300,8 @@ impl Machine {
             return self.unsound();
         }
         let mut fields = self.fields;
-        let outcome = self.change_lent(&mut fields, granting, right, page, domain);
-        Machine { fields, ..self }.silent(outcome)
+        let number = self.change_lent(&mut fields, granting, right, page, domain);
+        self.answered_with(number, fields)
     }
 
     // Grant of a right to a page to a domain (RULES 3.4, 3.5).
@@ -321,10 +319,12 @@ impl Machine {
     }
 
     // The mask command, without the check for 1 (RULES 2.8).
-    pub fn set_mask_unchecked(self, mask: u16) -> Answered
+    pub fn set_mask_unchecked(mut self, mask: u16) -> Answered
         ensures { result ≡ unchecked_of self (Call.SetMask mask) }
     {
-        self.with_registers(replace_mask(self.registers, mask))
+        let done = replace_mask(self.registers, mask);
+        self.registers = done.registers;
+        self.silent(done.number)
     }
 
     // The mask command (RULES 3.8, 3.9). `set_mask_lent` is the one on a register record.
@@ -345,15 +345,15 @@ impl Machine {
     {
         let mut registers = self.registers;
         let mut depth = self.depth;
-        let outcome = check_entry(!(depth < Machine::DEPTH));
-        if outcome.is_ok() {
+        let number = entry_number(!(depth < Machine::DEPTH));
+        if depth < Machine::DEPTH {
             store_at(saved, depth as usize, registers.privileged());
             registers = registers.with_pending(false).with_mode(Mode::Privileged);
             depth += 1;
         }
         self.registers = registers;
         self.depth = depth;
-        self.silent(outcome)
+        self.silent(number)
     }
 
     // Interrupt entry (RULES 3.10, 3.11).
@@ -376,8 +376,8 @@ impl Machine {
     {
         let mut registers = self.registers;
         let mut depth = self.depth;
-        let outcome = check_return(!registers.privileged(), depth == 0);
-        if outcome.is_ok() {
+        let number = return_number(!registers.privileged(), depth == 0);
+        if number == 0 {
             depth = depth.saturating_sub(1);
             let mode = saved_mode(saved, depth);
             store_at(saved, depth as usize, false);
@@ -385,7 +385,7 @@ impl Machine {
         }
         self.registers = registers;
         self.depth = depth;
-        self.silent(outcome)
+        self.silent(number)
     }
 
     // Return from an interrupt (RULES 3.12, 3.13).
@@ -410,15 +410,15 @@ impl Machine {
         let mut registers = self.registers;
         let mut current = self.current;
         let mut table = self.table;
-        let outcome = checked(
+        let number = checked(
             unsound,
-            check_switch(
+            switch_number(
                 !registers.privileged(),
                 !(self.depth == 1),
                 !(program < self.programs),
             ),
         );
-        if outcome.is_ok() {
+        if number == 0 {
             let live = Program {
                 context: registers.context,
                 mask: registers.mask,
@@ -436,7 +436,7 @@ impl Machine {
         self.registers = registers;
         self.current = current;
         self.table = table;
-        self.silent(outcome)
+        self.silent(number)
     }
 
     // Switch to a program on a lent stack, which it alters there (RULES 2.10).
@@ -457,24 +457,20 @@ impl Machine {
     }
 
     // The kernel's store of a field on lent fields, which it alters there: its number (RULES 2.10).
-    pub fn store_lent(
-        self,
-        fields: &mut [u16],
-        right: u8,
-        page: Page,
-        bits: u16,
-    ) -> Result<(), Refusal>
-        ensures value { outcome_number result ≡ (unchecked_of (with_fields fields.old self) (Call.StoreField right page bits)).number }
+    pub fn store_lent(self, fields: &mut [u16], right: u8, page: Page, bits: u16) -> u8
+        ensures value { result ≡ (unchecked_of (with_fields fields.old self) (Call.StoreField right page bits)).number }
         ensures fields_after { fields.new ≡ (unchecked_of (with_fields fields.old self) (Call.StoreField right page bits)).machine.fields }
     {
         let registers = self.registers;
-        check_field_store(
+        let number = field_number(
             !(right <= 1),
             !(page.0 < self.pages),
             !registers.privileged(),
-        )?;
-        store_at(fields, place(right, page.0 as u32), bits);
-        Ok(())
+        );
+        let at = place(right, page.0 as u32);
+        let field = fields.get(at).copied().unwrap_or(0);
+        store_at(fields, at, chosen(number == 0, bits, field));
+        number
     }
 
     // The kernel's store of a field (RULES 3.16, 3.17).
@@ -486,8 +482,8 @@ impl Machine {
             return self.unsound();
         }
         let mut fields = self.fields;
-        let outcome = self.store_lent(&mut fields, right, page, bits);
-        Machine { fields, ..self }.silent(outcome)
+        let number = self.store_lent(&mut fields, right, page, bits);
+        self.answered_with(number, fields)
     }
 
     // The kernel's store of the global context, without the check for 1 (RULES 2.8).
@@ -495,8 +491,8 @@ impl Machine {
         ensures { result ≡ unchecked_of self (Call.StoreContext bits) }
     {
         let registers = self.registers;
-        let outcome = check_register_store(!registers.privileged());
-        self.with_registers(outcome.map(|()| registers.with_context(bits)))
+        let number = register_number(!registers.privileged());
+        self.with_registers_where(number, registers.with_context(bits))
     }
 
     // The kernel's store of the global context (RULES 3.18, 3.19).
@@ -515,8 +511,8 @@ impl Machine {
         ensures { result ≡ unchecked_of self (Call.StoreMask bits) }
     {
         let registers = self.registers;
-        let outcome = check_register_store(!registers.privileged());
-        self.with_registers(outcome.map(|()| registers.with_mask(bits)))
+        let number = register_number(!registers.privileged());
+        self.with_registers_where(number, registers.with_mask(bits))
     }
 
     // The kernel's store of the mask (RULES 3.20, 3.21).
@@ -535,8 +531,8 @@ impl Machine {
         ensures { result ≡ unchecked_of self (Call.StoreMode mode) }
     {
         let registers = self.registers;
-        let outcome = check_mode_store(!(mode <= 1), !registers.privileged());
-        self.with_registers(outcome.map(|()| registers.with_mode(mode_of(mode))))
+        let number = mode_number(!(mode <= 1), !registers.privileged());
+        self.with_registers_where(number, registers.with_mode(mode_of(mode)))
     }
 
     // The kernel's store of the mode (RULES 3.22, 3.23).
@@ -555,10 +551,10 @@ impl Machine {
         ensures { result ≡ unchecked_of self Call.AskViolation }
     {
         let registers = self.registers;
-        let outcome = check_register_store(!registers.privileged());
-        let report = self.violations.handed_out(outcome.is_ok());
+        let number = register_number(!registers.privileged());
+        let report = self.violations.handed_out(number == 0);
         Answered {
-            number: outcome_number(outcome),
+            number,
             machine: self,
             report,
         }

@@ -7,8 +7,9 @@ use mathlib.Core.List.{List, [], ◌∷◌, map}
 use lib.Count.{ones_in, count_trailing_zeros}
 use lib.Dec.{leb}
 use Rattle.rules.specs.Refusals.{first, pick, ◌⇒◌}
-use Rattle.rules.specs.Registers.{Masked, is_privileged, mode_where, local_context, with_context, with_mask, with_mode, with_pending, masked_of}
+use Rattle.rules.specs.Registers.{is_privileged, mode_where, local_context, with_context, with_mask, with_mode, with_pending, masked_of}
 use Rattle.rules.specs.Domains.{is_domain, domain_bit, holds, domain_count, prevailing, giving_domain, is_outside, is_not_lower, with_bit, without_bit}
+use Rattle.rules.specs.declared.registers.Masked.{Masked}
 use Rattle.rules.specs.declared.registers.Mode.{Mode}
 use Rattle.rules.specs.declared.registers.Mode.TheVariants.{User, Privileged}
 use Rattle.rules.specs.declared.registers.Registers.{Registers}

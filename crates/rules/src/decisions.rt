@@ -1,38 +1,40 @@
-// What refuses each call, from its own conditions (RULES, section 3): the first one that is met.
+// The number of each call from its own conditions (RULES, section 3): that of the first one that is met.
 // The test for 1, which stands before them all, is the machine's.
+// A number, 0 where nothing refuses the call, and no `Result`: that was tried, and the run's accesses to two bytes and its grants became slower than
+// plain C's, which they are faster than with numbers (docs/PERFORMANCE.md).
 ghost use Rattle.std.specs.Prelude.{◌≡◌, [], ◌∷◌};
-ghost use Rattle.rules.specs.Refusals.{first, pick, outcome_number, ◌⇒◌};
+ghost use Rattle.rules.specs.Refusals.{first, pick, ◌⇒◌};
 
 use crate::refusals::Refusal;
 
-pub fn check_access(
+pub fn access_number(
     badright: bool,
     outside: bool,
     privileged: bool,
     pending: bool,
     denied: bool,
-) -> Result<(), Refusal>
-    ensures { outcome_number result ≡ first ((badright ⇒ 2) ∷ (outside ⇒ 3) ∷ pick privileged [] ((pending ⇒ 8) ∷ (denied ⇒ 9) ∷ [])) }
+) -> u8
+    ensures { result ≡ first ((badright ⇒ 2) ∷ (outside ⇒ 3) ∷ pick privileged [] ((pending ⇒ 8) ∷ (denied ⇒ 9) ∷ [])) }
 {
     if badright {
-        return Err(Refusal::NoSuchRight);
+        return Refusal::NoSuchRight as u8;
     }
     if outside {
-        return Err(Refusal::OutsideMemory);
+        return Refusal::OutsideMemory as u8;
     }
     if privileged {
-        return Ok(());
+        return 0;
     }
     if pending {
-        return Err(Refusal::InterruptPending);
+        return Refusal::InterruptPending as u8;
     }
     if denied {
-        return Err(Refusal::Violation);
+        return Refusal::Violation as u8;
     }
-    Ok(())
+    0
 }
 
-pub fn check_change(
+pub fn change_number(
     badright: bool,
     badpage: bool,
     baddomain: bool,
@@ -40,117 +42,117 @@ pub fn check_change(
     pending: bool,
     outside: bool,
     notlower: bool,
-) -> Result<(), Refusal>
-    ensures { outcome_number result ≡ first ((badright ⇒ 2) ∷ (badpage ⇒ 4) ∷ (baddomain ⇒ 5) ∷ (privileged ⇒ 6) ∷ (pending ⇒ 8) ∷ (outside ⇒ 11) ∷ (notlower ⇒ 12) ∷ []) }
+) -> u8
+    ensures { result ≡ first ((badright ⇒ 2) ∷ (badpage ⇒ 4) ∷ (baddomain ⇒ 5) ∷ (privileged ⇒ 6) ∷ (pending ⇒ 8) ∷ (outside ⇒ 11) ∷ (notlower ⇒ 12) ∷ []) }
 {
     if badright {
-        return Err(Refusal::NoSuchRight);
+        return Refusal::NoSuchRight as u8;
     }
     if badpage {
-        return Err(Refusal::NoSuchPage);
+        return Refusal::NoSuchPage as u8;
     }
     if baddomain {
-        return Err(Refusal::NoSuchDomain);
+        return Refusal::NoSuchDomain as u8;
     }
     if privileged {
-        return Err(Refusal::PrivilegedMode);
+        return Refusal::PrivilegedMode as u8;
     }
     if pending {
-        return Err(Refusal::InterruptPending);
+        return Refusal::InterruptPending as u8;
     }
     if outside {
-        return Err(Refusal::NotPrevailing);
+        return Refusal::NotPrevailing as u8;
     }
     if notlower {
-        return Err(Refusal::NotLower);
+        return Refusal::NotLower as u8;
     }
-    Ok(())
+    0
 }
 
-pub fn check_mask(privileged: bool, pending: bool, emptymask: bool) -> Result<(), Refusal>
-    ensures { outcome_number result ≡ first ((privileged ⇒ 6) ∷ (pending ⇒ 8) ∷ (emptymask ⇒ 19) ∷ []) }
+pub fn mask_number(privileged: bool, pending: bool, emptymask: bool) -> u8
+    ensures { result ≡ first ((privileged ⇒ 6) ∷ (pending ⇒ 8) ∷ (emptymask ⇒ 19) ∷ []) }
 {
     if privileged {
-        return Err(Refusal::PrivilegedMode);
+        return Refusal::PrivilegedMode as u8;
     }
     if pending {
-        return Err(Refusal::InterruptPending);
+        return Refusal::InterruptPending as u8;
     }
     if emptymask {
-        return Err(Refusal::EmptyMask);
+        return Refusal::EmptyMask as u8;
     }
-    Ok(())
+    0
 }
 
-pub fn check_entry(full: bool) -> Result<(), Refusal>
-    ensures { outcome_number result ≡ first ((full ⇒ 13) ∷ []) }
+pub fn entry_number(full: bool) -> u8
+    ensures { result ≡ first ((full ⇒ 13) ∷ []) }
 {
     if full {
-        return Err(Refusal::StackFull);
+        return Refusal::StackFull as u8;
     }
-    Ok(())
+    0
 }
 
-pub fn check_return(user: bool, empty: bool) -> Result<(), Refusal>
-    ensures { outcome_number result ≡ first ((user ⇒ 7) ∷ (empty ⇒ 14) ∷ []) }
+pub fn return_number(user: bool, empty: bool) -> u8
+    ensures { result ≡ first ((user ⇒ 7) ∷ (empty ⇒ 14) ∷ []) }
 {
     if user {
-        return Err(Refusal::UserMode);
+        return Refusal::UserMode as u8;
     }
     if empty {
-        return Err(Refusal::StackEmpty);
+        return Refusal::StackEmpty as u8;
     }
-    Ok(())
+    0
 }
 
-pub fn check_switch(user: bool, notone: bool, badprogram: bool) -> Result<(), Refusal>
-    ensures { outcome_number result ≡ first ((user ⇒ 7) ∷ (notone ⇒ 15) ∷ (badprogram ⇒ 16) ∷ []) }
+pub fn switch_number(user: bool, notone: bool, badprogram: bool) -> u8
+    ensures { result ≡ first ((user ⇒ 7) ∷ (notone ⇒ 15) ∷ (badprogram ⇒ 16) ∷ []) }
 {
     if user {
-        return Err(Refusal::UserMode);
+        return Refusal::UserMode as u8;
     }
     if notone {
-        return Err(Refusal::DepthNotOne);
+        return Refusal::DepthNotOne as u8;
     }
     if badprogram {
-        return Err(Refusal::NoSuchProgram);
+        return Refusal::NoSuchProgram as u8;
     }
-    Ok(())
+    0
 }
 
-pub fn check_field_store(badright: bool, badpage: bool, user: bool) -> Result<(), Refusal>
-    ensures { outcome_number result ≡ first ((badright ⇒ 2) ∷ (badpage ⇒ 4) ∷ (user ⇒ 7) ∷ []) }
+pub fn field_number(badright: bool, badpage: bool, user: bool) -> u8
+    ensures { result ≡ first ((badright ⇒ 2) ∷ (badpage ⇒ 4) ∷ (user ⇒ 7) ∷ []) }
 {
     if badright {
-        return Err(Refusal::NoSuchRight);
+        return Refusal::NoSuchRight as u8;
     }
     if badpage {
-        return Err(Refusal::NoSuchPage);
+        return Refusal::NoSuchPage as u8;
     }
     if user {
-        return Err(Refusal::UserMode);
+        return Refusal::UserMode as u8;
     }
-    Ok(())
+    0
 }
 
 // Of a call that is refused in user mode alone: the kernel's stores of the global context and the mask, and its question for the last violation.
-pub fn check_register_store(user: bool) -> Result<(), Refusal>
-    ensures { outcome_number result ≡ first ((user ⇒ 7) ∷ []) }
+pub fn register_number(user: bool) -> u8
+    ensures { result ≡ first ((user ⇒ 7) ∷ []) }
 {
     if user {
-        return Err(Refusal::UserMode);
+        return Refusal::UserMode as u8;
     }
-    Ok(())
+    0
 }
 
-pub fn check_mode_store(badmode: bool, user: bool) -> Result<(), Refusal>
-    ensures { outcome_number result ≡ first ((badmode ⇒ 17) ∷ (user ⇒ 7) ∷ []) }
+pub fn mode_number(badmode: bool, user: bool) -> u8
+    ensures { result ≡ first ((badmode ⇒ 17) ∷ (user ⇒ 7) ∷ []) }
 {
     if badmode {
-        return Err(Refusal::NoSuchMode);
+        return Refusal::NoSuchMode as u8;
     }
     if user {
-        return Err(Refusal::UserMode);
+        return Refusal::UserMode as u8;
     }
-    Ok(())
+    0
 }

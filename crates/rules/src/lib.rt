@@ -1,5 +1,5 @@
 // What the registers alone decide: modes, the register record, domain bits, the local context, the prevailing domain,
-// and for each call what refuses it by its conditions.
+// and for each call the number that its conditions give.
 #![tactic(auto)]
 
 pub mod decisions;
@@ -8,4 +8,4 @@ pub mod refusals;
 pub mod registers;
 
 pub use refusals::{Refusal, outcome_number};
-pub use registers::{Mode, Registers};
+pub use registers::{Masked, Mode, Registers};

@@ -1,10 +1,9 @@
 // The live registers (RULES, section 1), and the mask command on a record of them (RULES 2.11).
 ghost use Rattle.std.specs.Prelude.{◌≡◌};
-ghost use Rattle.rules.specs.Refusals.{outcome_number, given_or};
+ghost use Rattle.rules.specs.Refusals.{pick};
 ghost use Rattle.rules.specs.Registers.{is_privileged, mode_where, local_context, with_context, with_mask, with_mode, with_pending, masked_of};
 
-use crate::decisions::check_mask;
-use crate::refusals::Refusal;
+use crate::decisions::mask_number;
 
 // The live mode, and a saved or stored one.
 #[derive(Clone, Copy, Debug, PartialEq, Eq)]
@@ -20,6 +19,13 @@ pub struct Registers {
     pub mask: u16,
     pub mode: Mode,
     pub pending: bool,
+}
+
+// What the mask command makes of a register record: its number, and the record after it. Not a `Result`, as in decisions.rt.
+#[derive(Clone, Copy, Debug, PartialEq, Eq)]
+pub struct Masked {
+    pub number: u8,
+    pub registers: Registers,
 }
 
 impl Mode {
@@ -83,18 +89,27 @@ impl Registers {
     {
         Registers { pending, ..self }
     }
+
+    // These registers, or others where a call was accepted.
+    pub fn replaced_where(self, done: bool, others: Registers) -> Registers
+        ensures { result ≡ pick done others self }
+    {
+        if done { others } else { self }
+    }
 }
 
-// The mask command on a register record, without the check for 1: the registers with the mask in them, or why they stay as they are (RULES 2.11).
+// The mask command on a register record, without the check for 1 (RULES 2.11).
 #[tactic(auto, unfolding(crate::specs::Registers::masked_of))]
-pub fn replace_mask(registers: Registers, mask: u16) -> Result<Registers, Refusal>
-    ensures number { outcome_number result ≡ (masked_of registers mask).number }
-    ensures registers_after { given_or registers result ≡ (masked_of registers mask).registers }
+pub fn replace_mask(registers: Registers, mask: u16) -> Masked
+    ensures { result ≡ masked_of registers mask }
 {
-    check_mask(
+    let number = mask_number(
         registers.privileged(),
         registers.pending,
         mask & registers.context == 0,
-    )?;
-    Ok(registers.with_mask(mask))
+    );
+    Masked {
+        number,
+        registers: registers.replaced_where(number == 0, registers.with_mask(mask)),
+    }
 }
