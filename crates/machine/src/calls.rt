@@ -185,7 +185,11 @@ impl Machine {
     {
         let live = self.registers;
         self.registers = live.replaced_where(number == 0, registers);
-        self.silent(number)
+        Answered {
+            number,
+            machine: self,
+            report: Report::Nothing,
+        }
     }
 
     // The number of an access, from the fields that are lent.
@@ -353,7 +357,11 @@ impl Machine {
         }
         self.registers = registers;
         self.depth = depth;
-        self.silent(number)
+        Answered {
+            number,
+            machine: self,
+            report: Report::Nothing,
+        }
     }
 
     // Interrupt entry (RULES 3.10, 3.11).
@@ -385,7 +393,11 @@ impl Machine {
         }
         self.registers = registers;
         self.depth = depth;
-        self.silent(number)
+        Answered {
+            number,
+            machine: self,
+            report: Report::Nothing,
+        }
     }
 
     // Return from an interrupt (RULES 3.12, 3.13).
@@ -436,7 +448,11 @@ impl Machine {
         self.registers = registers;
         self.current = current;
         self.table = table;
-        self.silent(number)
+        Answered {
+            number,
+            machine: self,
+            report: Report::Nothing,
+        }
     }
 
     // Switch to a program on a lent stack, which it alters there (RULES 2.10).

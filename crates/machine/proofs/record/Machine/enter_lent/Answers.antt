@@ -33,4 +33,4 @@ returns c =
           (with_stack_lem m w.depth-is w.saved-is w.registers-is)
     ])
     refl in
-    record { value = c.silent.ensures ∙ both.0; saved_after = both.1 }
+    record { value = both.0; saved_after = both.1 }

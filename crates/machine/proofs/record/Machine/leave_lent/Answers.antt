@@ -34,4 +34,4 @@ returns c =
           kept m Return (checks_of m Return) number refl w.if-number-eq0.false (with_stack_lem m w.depth-is w.saved-is w.registers-is)
     ])
     refl in
-    record { value = c.silent.ensures ∙ both.0; saved_after = both.1 }
+    record { value = both.0; saved_after = both.1 }

@@ -42,4 +42,4 @@ returns c =
           kept m (Switch program) checks number refl w.if-number-eq0.false (with_programs_lem m w.current-is w.table-is w.saved-is w.registers-is)
     ])
     refl in
-    record { value = c.silent.ensures ∙ both.0; saved_after = both.1 }
+    record { value = both.0; saved_after = both.1 }
