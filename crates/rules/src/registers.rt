@@ -8,8 +8,8 @@ use crate::decisions::mask_number;
 // The live mode, and a saved or stored one.
 #[derive(Clone, Copy)]
 pub enum Mode {
-    User,
-    Privileged,
+    User = 0,
+    Privileged = 1,
 }
 
 // The register record (RULES 1.3): global context, mask, mode and the pending flag.

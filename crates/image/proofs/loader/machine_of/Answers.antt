@@ -11,12 +11,5 @@ pub returns : goal.returns
 unfolding machine_of describe
 returns c =
     let s = c.args.bytes.now in
-    rw (
-      c.table_of-table.ensures,
-      c.fields_of.ensures,
-      c.byte_at.ensures,
-      c.byte_at-2.ensures,
-      c.byte_at-3.ensures,
-      pad_at no_program 8 (programs_of s) 0 (omega arith),
-      length_entries 5 (program_at s) (22 + 4 * page_count s) (program_count s),
-    )
+    let shape = c.shape_at-shape.ensures in
+    ?

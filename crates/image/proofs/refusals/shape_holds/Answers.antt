@@ -17,11 +17,5 @@ memory_guarded false false b₁ b₂ b₃ x most = refl
 pub returns : goal.returns
 unfolding shape_tests
 returns c =
-    rw (
-      c.memory_size.ensures,
-      c.byte_at-pages.ensures,
-      c.byte_at-exponent.ensures,
-      c.byte_at-programs.ensures,
-      c.byte_at.ensures,
-      memory_guarded,
-    )
+    let shape = c.shape_at-shape.ensures in
+    rw (c.memory_size.ensures, shape.pages, shape.exponent, shape.programs, c.byte_at.ensures, memory_guarded)

@@ -1,0 +1,122 @@
+// What an image has many of, each in a body of one size (RULES 5.2): read one after another, and written one after another.
+ghost use Rattle.std.specs.Prelude.{◌≡◌, ℕ, ◌+◌, ◌*◌, ◌^◌, ◌≤◌, ◌<◌, List, length, refl};
+ghost use Rattle.std.proofs.lemmas.List.Edits.{sets};
+ghost use Rattle.machine.specs.Machine.{no_program};
+ghost use Rattle.image.specs.Bytes.{word, entries, bodies};
+ghost use Rattle.image.specs.Description.{program_bytes, pad};
+ghost use Rattle.image.specs.Load.{field_at, program_at};
+
+use crate::bytes::{field_at, mode_at, word_at};
+use machine::calls::mode_of;
+use machine::record::Program;
+use rules::registers::Mode;
+
+pub trait Body: Copy {
+    // How many bytes a body has.
+    const SIZE: usize;
+
+    ghost SIZE: { ℕ };
+
+    // What stands where there is no body.
+    const NONE: Self;
+
+    ghost NONE: { Self };
+
+    // What is read at a place of a string of bytes, and the bytes that are written of it.
+    ghost read_of: { List ℕ → ℕ → Self };
+
+    ghost bytes_of: { Self → List ℕ };
+
+    fn read(bytes: &[u8], at: u16) -> Self
+        ensures { result ≡ read_of bytes.now at };
+
+    // Written at a place.
+    fn put(self, out: &mut [u8], at: usize)
+        requires { at + SIZE ≤ length out.old }
+        ensures { out.new ≡ sets out.old at (bytes_of self) };
+
+    ghost sized: { (x : Self) → length (bytes_of x) ≡ SIZE };
+}
+
+// A READ or WRITE field, or another number of 16 bits: high byte first.
+impl Body for u16 {
+    const SIZE: usize = 2;
+
+    ghost SIZE = { 2 };
+
+    const NONE: u16 = 0;
+
+    ghost NONE = { 0 };
+
+    ghost read_of = { field_at };
+
+    ghost bytes_of = { word };
+
+    ghost sized = { λ number. refl };
+
+    fn read(bytes: &[u8], at: u16) -> u16 {
+        field_at(bytes, at)
+    }
+
+    fn put(self, out: &mut [u8], at: usize) {
+        out[at..at + 2].copy_from_slice(&self.to_be_bytes());
+    }
+}
+
+// A program: global context, mask and mode byte.
+impl Body for Program {
+    const SIZE: usize = 5;
+
+    ghost SIZE = { 5 };
+
+    const NONE: Program = Program {
+        context: 0,
+        mask: 0,
+        mode: Mode::User,
+    };
+
+    ghost NONE = { no_program };
+
+    ghost read_of = { program_at };
+
+    ghost bytes_of = { program_bytes };
+
+    ghost sized = { λ program. refl };
+
+    fn read(bytes: &[u8], at: u16) -> Program {
+        Program {
+            context: word_at(bytes, at as u32),
+            mask: word_at(bytes, 2 + at as u32),
+            mode: mode_of(mode_at(bytes, at) as u16),
+        }
+    }
+
+    fn put(self, out: &mut [u8], at: usize) {
+        self.context.put(out, at);
+        self.mask.put(out, at + 2);
+        out[at + 4] = self.mode as u8;
+    }
+}
+
+// So many bodies that stand one after another, the first at a place, in the first places of an array; past them there is none.
+pub fn read_bodies<T: Body, const N: usize>(bytes: &[u8], at: u16, count: usize) -> [T; N]
+    requires { at + T.SIZE * N < 2 ^ 16 }
+    ensures { result ≡ pad N T.NONE (entries T.SIZE (T.read_of bytes.now) at count) }
+{
+    let mut places = [T::NONE; N];
+    for i in 0..count.min(N) {
+        places[i] = T::read(bytes, at + (T::SIZE * i) as u16);
+    }
+    places
+}
+
+// So many bodies written one after another; where fewer are given, none is written for each that is missing.
+pub fn write_bodies<T: Body>(out: &mut [u8], items: &[T], count: usize)
+    requires { T.SIZE * count ≤ length out.old }
+    ensures { out.new ≡ sets out.old 0 (bodies T.bytes_of (pad count T.NONE items.now)) }
+{
+    for i in 0..count {
+        let item = items.get(i).copied().unwrap_or(T::NONE);
+        item.put(out, T::SIZE * i);
+    }
+}
