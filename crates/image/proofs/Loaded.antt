@@ -9,7 +9,6 @@ use lib.ListN.{length, get_or}
 use Rattle.rules.specs.Refusals.{first, pick}
 use Rattle.machine.specs.Machine.{is_sound, no_program, zero}
 use Rattle.machine.specs.declared.record.Machine.{Machine}
-use Rattle.machine.specs.declared.record.LastViolation.TheVariants.{Absent}
 use Rattle.machine.specs.declared.record.Report.TheVariants.{Nothing}
 use Rattle.machine.specs.Listed.{is_in}
 use Rattle.machine.proofs.Sound.{facts_sound}
@@ -18,6 +17,7 @@ use Rattle.image.specs.Description.{machine_of, live_of}
 use Rattle.image.specs.Load.{fields_of, programs_of, program_at, field_at, page_count, program_count, describe, load_checks, load_of}
 use Rattle.image.proofs.Entries.{length_entries, pad_at, pad_past}
 use Rattle.image.proofs.Passed.{Passed, passed}
+use Rattle.std.specs.Prelude.{None}
 
 -- RULES 5.9: what holds of a loaded machine, whatever the image said: sound, program 0 live, no last violation, all past a count or the depth empty
 pub record Loaded (m : Machine) : Type 0 where
@@ -26,7 +26,7 @@ pub record Loaded (m : Machine) : Type 0 where
   pub live : m.registers ≡ live_of (get_or m.table 0 no_program)
   pub flag_clear : m.registers.pending ≡ false
   pub no_depth : m.depth ≡ 0
-  pub no_violation : m.violations.last ≡ Absent
+  pub no_violation : m.violations.last ≡ None
   pub no_field : (i : ℕ) → 2 * m.pages ≤ i → get_or m.fields i 0 ≡ 0
   pub no_program_past : (i : ℕ) → m.programs ≤ i → get_or m.table i no_program ≡ no_program
   pub no_mode : (i : ℕ) → get_or m.saved i false ≡ false

@@ -12,8 +12,6 @@ use Rattle.machine.specs.Machine.{is_sound, no_program, with_last}
 use Rattle.machine.specs.Calls.{silent}
 use Rattle.machine.specs.declared.record.Machine.{Machine}
 use Rattle.machine.specs.declared.record.Program.{Program}
-use Rattle.machine.specs.declared.record.LastViolation.{LastViolation}
-use Rattle.machine.specs.declared.record.LastViolation.TheVariants.{Absent}
 use Rattle.machine.proofs.Sound.{sound_facts}
 use Rattle.machine.proofs.Written.{whole}
 use Rattle.image.specs.Bytes.{Bytes, word_at}
@@ -27,6 +25,8 @@ use Rattle.image.proofs.Reread.{describe_bytes}
 use Rattle.image.proofs.Rewritten.{bytes_of_describe, describe_legal}
 use Rattle.image.proofs.RoundTrip.{shaped_loads}
 use Rattle.image.proofs.Writes.{Ready, too_short, done, ready, number_exactly, size, image_length, image_written, refused_keeps}
+use Rattle.std.specs.Prelude.{Option, None}
+use Rattle.machine.specs.declared.record.Violation.{Violation}
 
 -- ---- lists in so many places
 
@@ -132,7 +132,7 @@ loads_again m buffer accepted =
     (shaped_loads (description_of m) (shaped_machine m can.sound) ∙ ap (λ (n : Machine). silent 0 n) (started m can))
 
 -- RULES 5.14, 5.17: the last violation is no part of the image: whichever it is, the bytes are the same, and they start the same machine
-pub last_aside : (m : Machine) (last : LastViolation) → (image_for (with_last last m) ≡ image_for m) × (restarted (with_last last m) ≡ restarted m)
+pub last_aside : (m : Machine) (last : Option Violation) → (image_for (with_last last m) ≡ image_for m) × (restarted (with_last last m) ≡ restarted m)
 unfolding description_of restarted
 last_aside m last = (refl, refl)
 
@@ -144,7 +144,7 @@ pub record Restarts (m r : Machine) : Type 0 where
   pub no_field : (i : ℕ) → 2 * m.pages ≤ i → get_or r.fields i 0 ≡ 0
   pub registers : r.registers ≡ m.registers
   pub no_depth : r.depth ≡ 0
-  pub no_violation : r.violations.last ≡ Absent
+  pub no_violation : r.violations.last ≡ None
   pub no_mode : (i : ℕ) → get_or r.saved i false ≡ false
   pub programs : r.programs ≡ m.programs
   pub runs_first : r.current ≡ 0

@@ -1,12 +1,11 @@
 -- What an image says, the bytes that it is written in, and the machine that it stands for (RULES, section 5).
-use Rattle.std.specs.Prelude.{ℕ, zero, suc, ◌+◌, ◌*◌, ◌^◌, ◌≤◌, ◌<◌, ◌≡◌, false, List, [], ◌∷◌, ◌++◌, length, get_or, replicate}
+use Rattle.std.specs.Prelude.{ℕ, zero, suc, ◌+◌, ◌*◌, ◌^◌, ◌≤◌, ◌<◌, ◌≡◌, false, List, [], ◌∷◌, ◌++◌, length, get_or, replicate, None}
 use Rattle.rules.specs.declared.registers.Mode.{Mode}
 use Rattle.rules.specs.declared.registers.Mode.TheVariants.{User, Privileged}
 use Rattle.rules.specs.declared.registers.Registers.{Registers}
 use Rattle.machine.specs.Machine.{no_program}
 use Rattle.machine.specs.declared.record.Machine.{Machine}
 use Rattle.machine.specs.declared.record.Program.{Program}
-use Rattle.machine.specs.declared.record.LastViolation.TheVariants.{Absent}
 use Rattle.image.specs.Bytes.{word, bodies}
 
 -- RULES 5.11: what is chosen for an image; the fields are READ and WRITE of each page in turn
@@ -87,5 +86,5 @@ machine_of d =
       programs = length d.programs;
       current = 0;
       table = pad 8 no_program d.programs;
-      violations = record { last = Absent };
+      violations = record { last = None };
     }

@@ -1,11 +1,10 @@
 -- The sample node (RULES 5.12): its bytes, what they say, and the machine that they load to.
-use Rattle.std.specs.Prelude.{ℕ, Bool, false, List, [], ◌∷◌, ◌++◌, replicate}
+use Rattle.std.specs.Prelude.{ℕ, Bool, false, List, [], ◌∷◌, ◌++◌, replicate, None}
 use Rattle.rules.specs.declared.registers.Mode.TheVariants.{User}
 use Rattle.rules.specs.declared.registers.Registers.{Registers}
 use Rattle.machine.specs.Machine.{no_program}
 use Rattle.machine.specs.declared.record.Machine.{Machine}
 use Rattle.machine.specs.declared.record.Program.{Program}
-use Rattle.machine.specs.declared.record.LastViolation.TheVariants.{Absent}
 use Rattle.image.specs.Description.{Description}
 
 -- RULES 5.12: the 44 bytes, with a line for each row there
@@ -50,7 +49,7 @@ node fields registers =
       programs = 2;
       current = 0;
       table = sample_programs ++ replicate 6 no_program;
-      violations = record { last = Absent };
+      violations = record { last = None };
     }
 
 -- RULES 5.12: program 0's registers, with a mask and a flag

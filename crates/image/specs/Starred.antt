@@ -1,10 +1,8 @@
 -- The starred cases: the twelve of RULES 5.13, each made on the machine that the sample node loads to.
-use Rattle.std.specs.Prelude.{ℕ, true, false, List, [], ◌∷◌}
+use Rattle.std.specs.Prelude.{ℕ, true, false, List, [], ◌∷◌, Option, Some}
 use Rattle.machine.specs.Calls.{as_page, as_domain, call_of}
 use Rattle.machine.specs.Machine.{with_last}
 use Rattle.machine.specs.declared.record.Machine.{Machine}
-use Rattle.machine.specs.declared.record.LastViolation.{LastViolation}
-use Rattle.machine.specs.declared.record.LastViolation.TheVariants.{Was}
 use Rattle.machine.specs.declared.record.Report.{Report}
 use Rattle.machine.specs.declared.record.Report.TheVariants.{Nothing, Through}
 use Rattle.machine.specs.declared.record.Answered.{Answered}
@@ -13,6 +11,7 @@ use Rattle.machine.specs.declared.record.Call.{Call}
 use Rattle.machine.specs.declared.record.Call.TheVariants.{Access, Grant, Revoke, SetMask, Return}
 use Rattle.image.specs.Load.{load_of}
 use Rattle.image.specs.Sample.{sample_bytes, sample_fields, sample_machine, node, live}
+use Rattle.machine.specs.declared.record.Violation.{Violation}
 
 -- RULES 5.13: the calls made first, the call, and the number, the machine and the report that it must give
 pub record Case : Type 0 where
@@ -39,8 +38,8 @@ abbrev WRITE : ℕ
 WRITE = 1
 
 -- RULES 1.16: a violation of program 0, which the sample node starts on
-abbrev denied : ℕ → ℕ → LastViolation
-denied right address = Was (record { program = 0; right = right; address = address })
+abbrev denied : ℕ → ℕ → Option Violation
+denied right address = Some (record { program = 0; right = right; address = address })
 
 -- RULES 5.13: the table, in its order; page 1 starts at address 256
 unfoldable pub starred : List Case

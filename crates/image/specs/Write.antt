@@ -1,12 +1,11 @@
 -- Writing an image back (RULES 5.14 to 5.18): what is written of a machine, what is refused, the buffer after it, and the machine that the
 -- image starts.
-use Rattle.std.specs.Prelude.{ℕ, ◌*◌, Bool, false, not, ◌&&◌, List, [], ◌∷◌, ◌++◌, eqb, ltb, length, drop, replicate}
+use Rattle.std.specs.Prelude.{ℕ, ◌*◌, Bool, false, not, ◌&&◌, List, [], ◌∷◌, ◌++◌, eqb, ltb, length, drop, replicate, None}
 use Rattle.rules.specs.Refusals.{Check, ◌⇒◌, first, pick}
 use Rattle.rules.specs.declared.registers.Registers.{Registers}
 use Rattle.machine.specs.Machine.{is_sound, no_program}
 use Rattle.machine.specs.declared.record.Machine.{Machine}
 use Rattle.machine.specs.declared.record.Program.{Program}
-use Rattle.machine.specs.declared.record.LastViolation.TheVariants.{Absent}
 use Rattle.image.specs.Description.{Description, bytes_of, pad}
 
 -- RULES 5.14: the live registers as a program's entry; the flag is no part of one
@@ -79,5 +78,5 @@ restarted m =
       programs = m.programs;
       current = 0;
       table = pad 8 no_program (counted_programs m);
-      violations = record { last = Absent };
+      violations = record { last = None };
     }

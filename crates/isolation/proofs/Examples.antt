@@ -8,7 +8,6 @@ use lib.Count.{count_trailing_zeros}
 use lib.ListN.{get_or, replicate}
 use native.Mathlib.Omega.{arith}
 use Rattle.rules.specs.Domains.{domain_bit, holds, prevailing}
-use Rattle.rules.specs.declared.domains.Prevailing.TheVariants.{At}
 use Rattle.rules.specs.declared.registers.Mode.{Mode}
 use Rattle.rules.specs.declared.registers.Mode.TheVariants.{User, Privileged}
 use Rattle.rules.proofs.Laws.{no_domain_held}
@@ -27,6 +26,7 @@ use Rattle.isolation.specs.Isolation.{Apart, Isolated, Observation, context_of, 
 use Rattle.machine.proofs.Written.{stored, live, whole}
 use Rattle.isolation.proofs.Isolation.{isolation}
 use Rattle.isolation.proofs.Settled.{Started}
+use Rattle.std.specs.Prelude.{Some}
 
 -- the machine that the sample image loads to, with any count of programs and any mode stored for program 0
 abbrev pub node : ℕ → Mode → Machine
@@ -105,7 +105,7 @@ mixed_observed = refl
 -- ---- RULES 4.9: the premise for program 0, which is met
 
 -- a context without the prevailing domain does not hold it
-prevails_not : (context level domain : ℕ) → holds context level ≡ false → At level ≡ At domain → holds context domain ≡ true → ⊥
+prevails_not : (context level domain : ℕ) → holds context level ≡ false → Some level ≡ Some domain → holds context domain ≡ true → ⊥
 prevails_not context level domain lacks e held =
     let same : level ≡ domain = cc in
     let seen : true ≡ false = sym held ∙ ap (holds context) (sym same) ∙ lacks in
@@ -113,7 +113,7 @@ prevails_not context level domain lacks e held =
     omega arith
 
 -- program 1 holds domain 3 alone, which prevails nowhere
-nowhere : (right page domain : ℕ) → right ≤ 1 → page < 3 → prevailing (field_of sample right page) ≡ At domain
+nowhere : (right page domain : ℕ) → right ≤ 1 → page < 3 → prevailing (field_of sample right page) ≡ Some domain
     → holds 0x0008 domain ≡ true → ⊥
 unfolding prevailing count_trailing_zeros domain_bit
 nowhere zero zero domain known counted prevails held = prevails_not 0x0008 0 domain refl prevails held

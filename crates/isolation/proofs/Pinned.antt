@@ -11,7 +11,6 @@ use lib.Dec.{eqb}
 use lib.ListN.{get_or, replicate}
 use Rattle.rules.specs.Refusals.{pick}
 use Rattle.rules.specs.Domains.{domain_bit, holds, prevailing, giving_domain}
-use Rattle.rules.specs.declared.domains.Prevailing.TheVariants.{At}
 use Rattle.rules.specs.declared.registers.Mode.TheVariants.{User}
 use Rattle.machine.specs.Machine.{is_sound}
 use Rattle.machine.specs.Calls.{access_checks, after, call_of, checks_of, change_checks, effect_of, entered, returned, switched}
@@ -27,6 +26,7 @@ use Rattle.machine.proofs.Written.{stored, live, whole}
 use Rattle.image.specs.Load.{load_of}
 use Rattle.isolation.specs.Histories.{Command, access, grant, revoke, set_mask, History, Made, Turn, TurnCalls, calls_of, command_call, turn_calls, turns_of}
 use Rattle.isolation.specs.Isolation.{Apart, InTable, Isolated, Observation, ThirdDemand, context_of, observed, observed_from, own_turns, rights_below, rights_of, taken_out}
+use Rattle.std.specs.Prelude.{Some}
 
 abbrev unused : Program
 unused = stored 0 0 User
@@ -37,7 +37,7 @@ Premise m chosen =
     (other right page domain lower : ℕ)
     → other < m.programs → (other ≡ chosen → ⊥)
     → right ≤ 1 → page < m.pages
-    → prevailing (get_or m.fields (2 * page + right) 0) ≡ At domain
+    → prevailing (get_or m.fields (2 * page + right) 0) ≡ Some domain
     → holds (get_or m.table other unused).context domain ≡ true
     → domain < lower → holds (get_or m.table chosen unused).context lower ≡ false
 

@@ -1,9 +1,8 @@
 -- The third term, which the code calls the third demand (RULES 4.4 to 4.8, 10.3). `start` is the machine that the image loads to.
-use Rattle.std.specs.Prelude.{ℕ, zero, suc, ◌≤◌, ◌<◌, ◌≡◌, ◌≢◌, true, false, List, [], ◌∷◌, ◌++◌, eqb, get_or}
+use Rattle.std.specs.Prelude.{ℕ, zero, suc, ◌≤◌, ◌<◌, ◌≡◌, ◌≢◌, true, false, List, [], ◌∷◌, ◌++◌, eqb, get_or, Some}
 use Rattle.std.specs.Int.Bits.{bit_and}
 use Rattle.rules.specs.Domains.{holds, prevailing}
 use Rattle.rules.specs.Refusals.{pick}
-use Rattle.rules.specs.declared.domains.Prevailing.TheVariants.{At}
 use Rattle.machine.specs.Machine.{field_of, no_program}
 use Rattle.machine.specs.Calls.{call_of}
 use Rattle.machine.specs.declared.record.Machine.{Machine}
@@ -80,7 +79,7 @@ Apart start chosen =
     (other right page domain lower : ℕ)
     → other < start.programs → other ≢ chosen
     → right ≤ 1 → page < start.pages
-    → prevailing (field_of start right page) ≡ At domain
+    → prevailing (field_of start right page) ≡ Some domain
     → holds (context_of start other) domain ≡ true
     → domain < lower → holds (context_of start chosen) lower ≡ false
 

@@ -6,8 +6,7 @@ use mathlib.Core.List.{List, [], ◌∷◌}
 use borrow.Author.Tests.{eqb-true, eqb-false, ne_eqb, ltb-true, not-true, not-false}
 use native.Mathlib.Omega.{arith}
 use lib.Dec.{eqb}
-use lib.ListN.{get_or, set}
-use lib.Seq.{set-get_or}
+use lib.ListN.{set}
 use Rattle.rules.specs.Registers.{with_pending}
 use Rattle.rules.specs.Domains.{prevailing, with_bit, without_bit}
 use Rattle.rules.specs.Refusals.{Check, ◌⇒◌, first, pick}
@@ -18,7 +17,6 @@ use Rattle.machine.specs.declared.record.Machine.{Machine}
 use Rattle.machine.specs.declared.record.Program.{Program}
 use Rattle.machine.specs.declared.record.Page.{Page}
 use Rattle.machine.specs.declared.record.Domain.{Domain}
-use Rattle.machine.specs.declared.record.LastViolation.{LastViolation}
 use Rattle.machine.specs.declared.record.Report.{Report}
 use Rattle.machine.specs.declared.record.Report.TheVariants.{Nothing, Through}
 use Rattle.machine.specs.declared.record.Answered.{Answered}
@@ -27,6 +25,8 @@ use Rattle.machine.specs.declared.record.Call.{Call}
 use Rattle.machine.specs.declared.record.Call.TheVariants.{Access, Enter, Return, Switch}
 use Rattle.rules.proofs.Decided.{and_both}
 use Rattle.machine.proofs.Sound.{sound_facts}
+use Rattle.std.specs.Prelude.{Option}
+use Rattle.machine.specs.declared.record.Violation.{Violation}
 
 -- no condition of the list answers k
 abbrev pub avoids : ℕ → List Check → Bool
@@ -170,28 +170,17 @@ module _ (m : Machine) (call : Call) where
       answered number never (rw (changed, effect) (pick_under (λ (live : Registers). with_registers live m) (eqb n 0) new m.registers))
       (unreported n reports)
 
-  -- one that changes the field at a place alone
-  pub field_answered : {n : ℕ} {fields : List ℕ} (at new : ℕ) → n ≡ own_number_of m call → avoids 9 (checks_of m call) ≡ true
-      → effect_of m call ≡ with_fields (set m.fields at new) m → report_of m call ≡ Nothing
-      → fields ≡ pick (eqb n 0) (set m.fields at new) m.fields → silent n (with_fields fields m) ≡ unchecked_of m call
-  field_answered {n} {fields} at new number never effect reports changed =
-      answered number never
-      (rw (changed, effect) (pick_under (λ (all : List ℕ). with_fields all m) (eqb n 0) (set m.fields at new) m.fields))
-      (unreported n reports)
+  -- the two outcomes of a call that stores to the fields alone, and where it is done alone
+  pub fields_done : {fields : List ℕ} → 0 ≡ own_number_of m call → effect_of m call ≡ with_fields fields m
+      → (0 ≡ (unchecked_of m call).number) × (fields ≡ (unchecked_of m call).machine.fields)
+  unfolding unchecked_of after
+  fields_done number effect = rw (← number) (refl, rw effect)
 
--- the field at a place, stored where the call was accepted and stored back as it was where not
-stored : (l : List ℕ) (at : ℕ) (b : Bool) (new : ℕ) → set l at (pick b new (get_or l at 0)) ≡ pick b (set l at new) l
-stored l at true new = refl
-stored l at false new = set-get_or l at 0
-
--- a call that stores a field where it is accepted, from the field that it read
-pub store_answered : (m : Machine) (call : Call) {n : ℕ} {fields : List ℕ} {field bits : ℕ} (at new : ℕ)
-    → field ≡ get_or m.fields at 0 → n ≡ own_number_of m call → avoids 9 (checks_of m call) ≡ true
-    → effect_of m call ≡ with_fields (set m.fields at new) m → report_of m call ≡ Nothing → bits ≡ pick (eqb n 0) new field
-    → fields ≡ set m.fields at bits → silent n (with_fields fields m) ≡ unchecked_of m call
-store_answered m call {n} {fields} {field} {bits} at new read number never effect reports chosen written =
-    field_answered m call at new number never effect reports
-    (written ∙ rw (chosen, read) (stored m.fields at (eqb n 0) new))
+  pub fields_kept : {n : ℕ} → n ≡ own_number_of m call → avoids 9 (checks_of m call) ≡ true → (n ≡ 0 → ⊥)
+      → (n ≡ (unchecked_of m call).number) × (m.fields ≡ (unchecked_of m call).machine.fields)
+  unfolding unchecked_of after
+  fields_kept {n} number never refused =
+      let nine = first_avoids 9 (checks_of m call) never in (number, rw (← number, ne_eqb n 0 refused) (rw (number, nine)))
 
 -- grant and revoke have one list of conditions, and effects that differ in the bit operation alone
 module _ (m : Machine) (right : ℕ) (page : Page) (s : Domain) where
@@ -216,20 +205,8 @@ module _ (m : Machine) (right : ℕ) (page : Page) (s : Domain) where
   unfolding change_checks
   change_avoids granting = rw (change_checks_lem granting)
 
-  -- a grant or a revocation, from what its code read, worked out and stored
-  pub change_answered : (granting : Bool) {n : ℕ} {fields : List ℕ} {field at bits : ℕ}
-      → field ≡ get_or m.fields at 0 → at ≡ place_of right page.0
-      → n ≡ first (change_checks m right page s (prevailing field))
-      → bits ≡ pick (eqb n 0) (pick granting (with_bit field s.0) (without_bit field s.0)) field → fields ≡ set m.fields at bits
-      → silent n (with_fields fields m) ≡ unchecked_of m (change_call granting right page s)
-  unfolding change_checks
-  change_answered granting {n} {fields} {field} {at} {bits} read place number chosen written =
-      let call = change_call granting right page s in
-      store_answered m call at _ read (rw (change_checks_lem granting) (number ∙ rw (read, place))) (change_avoids granting)
-      (change_effect granting ∙ rw (← place, ← read)) (change_reports granting) chosen written
-
 -- an access changes nothing but the flag and the last violation, and these where it answers 9; it names a domain where it answers 0 in user mode
-pub access_answered : (m : Machine) (width : Width) (right address : ℕ) {n : ℕ} {r : Registers} {last : LastViolation} {report : Report}
+pub access_answered : (m : Machine) (width : Width) (right address : ℕ) {n : ℕ} {r : Registers} {last : Option Violation} {report : Report}
     → n ≡ own_number_of m (Access width right address)
     → r ≡ pick (eqb n 9) (with_pending true m.registers) m.registers
     → last ≡ pick (eqb n 9) (last_after_violation m (Access width right address)) m.violations.last

@@ -6,8 +6,6 @@ use borrow.Author.Tests.{ltb-true, leb-true, leb-false, le-leb, lt-leb, lt-ltb, 
 use Rattle.rules.specs.Registers.{local_context}
 use Rattle.rules.specs.Domains.{holds, prevailing, is_outside, is_not_lower}
 use Rattle.rules.specs.Refusals.{pick}
-use Rattle.rules.specs.declared.domains.Prevailing.{Prevailing}
-use Rattle.rules.specs.declared.domains.Prevailing.TheVariants.{Absent, At}
 use Rattle.machine.specs.Machine.{is_sound, field_of}
 use Rattle.machine.specs.Calls.{change_checks, in_privileged_mode, number_of}
 use Rattle.machine.specs.declared.record.Machine.{Machine}
@@ -15,6 +13,7 @@ use Rattle.machine.specs.declared.record.Page.{Page}
 use Rattle.machine.specs.declared.record.Domain.{Domain}
 use Rattle.machine.specs.declared.record.Call.TheVariants.{Grant, Revoke}
 use Rattle.machine.proofs.Answers.{accepted, met_at, unmet, change_checks_lem}
+use Rattle.std.specs.Prelude.{Option, None, Some}
 
 -- a grant or a revocation is accepted by virtue of the prevailing domain of the whole field alone: it is there, the local context has
 -- it, and it is of higher level than the domain that is named
@@ -25,7 +24,7 @@ pub record Entitled (m : Machine) (right page s : ℕ) : Type 0 where
   pub in_user_mode_lem : in_privileged_mode m ≡ false
   pub flag_clear : m.registers.pending ≡ false
   pub domain : ℕ
-  pub prevails : prevailing (field_of m right page) ≡ At domain
+  pub prevails : prevailing (field_of m right page) ≡ Some domain
   pub held : holds (local_context m.registers) domain ≡ true
   pub lower : domain < s
 
@@ -40,11 +39,11 @@ module _ (m : Machine) (granting : Bool) (right : ℕ) (page : Page) (s : Domain
       (ltb-true s.0 16 (not-false _ (met 2))) (met 3) (met 4) (prevailing field) refl (met 5) (met 6)
     where
       by_level : right ≤ 1 → page.0 < m.pages → s.0 < 16 → in_privileged_mode m ≡ false → m.registers.pending ≡ false
-          → (v : Prevailing) → prevailing (field_of m right page.0) ≡ v
+          → (v : Option ℕ) → prevailing (field_of m right page.0) ≡ v
           → is_outside v (local_context m.registers) ≡ false → is_not_lower v s.0 ≡ false → Entitled m right page.0 s.0
-      by_level known counted below user clear Absent e inside lower =
+      by_level known counted below user clear None e inside lower =
           absurd (true≢false inside)
-      by_level known counted below user clear (At d) e inside lower =
+      by_level known counted below user clear (Some d) e inside lower =
           record {
             right_known = known;
             page_counted = counted;

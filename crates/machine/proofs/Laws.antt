@@ -15,8 +15,6 @@ use Rattle.machine.specs.Machine.{is_right, is_sound, memory_size, field_of, vio
 use Rattle.machine.specs.Calls.{call_of, answer_by, silent, unchecked_of, checks_of, access_checks, change_checks, effect_of, entered, returned, switched, last_after_violation, handed_out, report_of, in_privileged_mode, in_user_mode, is_denied, is_outside_memory, number_of, touched, any, after, violated}
 use Rattle.machine.specs.Listed.{is_in, listed, own_numbers, sound_numbers}
 use Rattle.machine.specs.declared.record.Machine.{Machine}
-use Rattle.machine.specs.declared.record.LastViolation.{LastViolation}
-use Rattle.machine.specs.declared.record.LastViolation.TheVariants.{Was}
 use Rattle.machine.specs.declared.record.Report.TheVariants.{Nothing}
 use Rattle.machine.specs.declared.record.Width.{Width}
 use Rattle.machine.specs.declared.record.Call.{Call}
@@ -25,6 +23,8 @@ use Rattle.machine.proofs.Sound.{Sound, sound_facts, moved_sound}
 use Rattle.machine.proofs.Answers.{first_avoids, not_nine, after_cases, after_both}
 use Rattle.machine.proofs.Told.{told, shape, first_within}
 use Rattle.machine.proofs.Touched.{Touches, first_touched, none_meets, one_meets}
+use Rattle.std.specs.Prelude.{Option, Some}
+use Rattle.machine.specs.declared.record.Violation.{Violation}
 
 own_number : (m : Machine) (call : Call) → is_in (first (checks_of m call)) (0 ∷ own_numbers call) ≡ true
 own_number m call = first_within (0 ∷ own_numbers call) (checks_of m call) (told m call).numbers.own
@@ -176,7 +176,7 @@ violation_denies m AskViolation nine = absurd (not_nine m AskViolation refl nine
 -- RULES 3.3: it sets the flag and the last violation: the current program was denied that right to that address. Nothing else changes.
 pub access_violated : (m : Machine) (width : Width) (right address : ℕ) → (call_of m (Access width right address)).number ≡ 9
     → (call_of m (Access width right address)).machine
-    ≡ with_last (Was (record { program = m.current; right = right; address = address })) (with_registers (with_pending true m.registers) m)
+    ≡ with_last (Some (record { program = m.current; right = right; address = address })) (with_registers (with_pending true m.registers) m)
 unfolding call_of after
 access_violated m width right address nine = rw nine
 
@@ -219,7 +219,7 @@ last_kept m call other =
     (λ nine. absurd (other nine)) refl
 
 -- neither a call's own conditions nor the rest of its effect know of the last violation, and only the question reports it
-aside_last : (m : Machine) (last other : LastViolation) (call : Call)
+aside_last : (m : Machine) (last other : Option Violation) (call : Call)
     → (checks_of (with_last last m) call ≡ checks_of m call)
     × (with_last other (effect_of (with_last last m) call) ≡ with_last other (effect_of m call))
     × ((call ≡ AskViolation → ⊥) → report_of (with_last last m) call ≡ report_of m call)
@@ -239,7 +239,7 @@ aside_last m last other AskViolation = (refl, refl, λ question. absurd (questio
 
 -- RULES 1.16: whichever violation is the last, on a sound machine a call answers the same number, what is left but the last violation is the same, and
 -- every call but the question for it reports the same
-pub last_unseen : (m : Machine) (last other : LastViolation) (call : Call) → is_sound m ≡ true → is_sound (with_last last m) ≡ true
+pub last_unseen : (m : Machine) (last other : Option Violation) (call : Call) → is_sound m ≡ true → is_sound (with_last last m) ≡ true
     → ((call_of (with_last last m) call).number ≡ (call_of m call).number)
     × (with_last other (call_of (with_last last m) call).machine ≡ with_last other (call_of m call).machine)
     × ((call ≡ AskViolation → ⊥) → (call_of (with_last last m) call).report ≡ (call_of m call).report)

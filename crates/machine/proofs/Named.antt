@@ -17,8 +17,6 @@ use Rattle.machine.specs.Machine.{field_of}
 use Rattle.machine.specs.Calls.{call_of, in_privileged_mode, in_user_mode, handed_out, number_of, report_of}
 use Rattle.machine.specs.declared.record.Machine.{Machine}
 use Rattle.machine.specs.declared.record.Domain.{Domain}
-use Rattle.machine.specs.declared.record.LastViolation.{LastViolation}
-use Rattle.machine.specs.declared.record.LastViolation.TheVariants.{Absent, Was}
 use Rattle.machine.specs.declared.record.Report.{Report}
 use Rattle.machine.specs.declared.record.Report.TheVariants.{Nothing, Denied, Through}
 use Rattle.machine.specs.declared.record.Width.{Width}
@@ -28,6 +26,8 @@ use Rattle.machine.specs.declared.record.Call.TheVariants.{Access, Grant, Revoke
 use Rattle.machine.proofs.Answers.{accepted}
 use Rattle.machine.proofs.Allowed.{Allowed, allowed, allows, user_allowed}
 use Rattle.machine.proofs.Touched.{Touches, first_touched}
+use Rattle.std.specs.Prelude.{Option, None, Some}
+use Rattle.machine.specs.declared.record.Violation.{Violation}
 
 -- a report names a domain
 abbrev pub names_domain : Report → Bool
@@ -59,9 +59,9 @@ named_exactly m call = each call (eqb (number_of m call) 0)
     none true = refl
     none false = refl
 
-    question : (done : Bool) (last : LastViolation) → names_domain (pick done (handed_out last) Nothing) ≡ false
-    question true Absent = refl
-    question true (Was violation) = refl
+    question : (done : Bool) (last : Option Violation) → names_domain (pick done (handed_out last) Nothing) ≡ false
+    question true None = refl
+    question true (Some violation) = refl
     question false last = refl
 
     mode : (done privileged : Bool) (s : Domain) → names_domain (pick done (pick privileged Nothing (Through s)) Nothing) ≡ done && not privileged

@@ -19,14 +19,14 @@ use Rattle.machine.specs.declared.record.Machine.{Machine}
 use Rattle.machine.specs.declared.record.Program.{Program}
 use Rattle.machine.specs.declared.record.Page.{Page}
 use Rattle.machine.specs.declared.record.Domain.{Domain}
-use Rattle.machine.specs.declared.record.LastViolation.{LastViolation}
-use Rattle.machine.specs.declared.record.LastViolation.TheVariants.{Absent}
 use Rattle.machine.specs.declared.record.Report.TheVariants.{Nothing, Denied}
 use Rattle.machine.specs.declared.record.Answered.{Answered}
 use Rattle.machine.specs.declared.record.Width.TheVariants.{One, Two}
 use Rattle.machine.specs.declared.record.Call.{Call}
 use Rattle.machine.specs.declared.record.Call.TheVariants.{Access, Grant, Revoke, SetMask, Enter, Return, Switch, StoreField, StoreContext, StoreMask, StoreMode, AskViolation}
 use Rattle.machine.proofs.Written.{stored, live, denied, holding, whole, gives, goes_through, Answers, both}
+use Rattle.std.specs.Prelude.{Option, None}
+use Rattle.machine.specs.declared.record.Violation.{Violation}
 
 -- "every number is zero, every mode user and the flag clear": 256 fields, eight places on the stack, eight entries in the table
 pub all_zero :
@@ -248,16 +248,16 @@ hands machine program right address =
 
 -- in privileged mode it hands out what is kept, or nothing; in user mode and on a machine that is not sound it hands out nothing, whatever is kept
 pub question_cases :
-    let kept : Mode → ℕ → LastViolation → Machine = λ mode depth last. holding last 2 5 [] (live 1 2 mode false) depth [] 3 1 [] in
+    let kept : Mode → ℕ → Option Violation → Machine = λ mode depth last. holding last 2 5 [] (live 1 2 mode false) depth [] 3 1 [] in
     (map (λ (m : Machine). call_of m AskViolation)
-    (kept Privileged 0 Absent
+    (kept Privileged 0 None
     ∷ kept Privileged 8 (denied 2 1 63)
     ∷ kept Privileged 1 (denied 0 0 0)
     ∷ kept User 0 (denied 2 1 63)
     ∷ kept Privileged 9 (denied 2 1 63)
     ∷ kept Privileged 1 (denied 3 1 63)
     ∷ [])
-    ≡ gives 0 (kept Privileged 0 Absent)
+    ≡ gives 0 (kept Privileged 0 None)
     ∷ hands (kept Privileged 8 (denied 2 1 63)) 2 1 63
     ∷ hands (kept Privileged 1 (denied 0 0 0)) 0 0 0
     ∷ gives 7 (kept User 0 (denied 2 1 63))
@@ -265,19 +265,19 @@ pub question_cases :
     ∷ gives 1 (kept Privileged 1 (denied 3 1 63))
     ∷ [])
     × (unchecked_of (kept Privileged 9 (denied 3 2 64)) AskViolation ≡ hands (kept Privileged 9 (denied 3 2 64)) 3 2 64)
-    × (handed_out Absent ∷ handed_out (denied 7 1 65023) ∷ [] ≡ Nothing ∷ Denied (record { program = 7; right = 1; address = 65023 }) ∷ [])
+    × (handed_out None ∷ handed_out (denied 7 1 65023) ∷ [] ≡ Nothing ∷ Denied (record { program = 7; right = 1; address = 65023 }) ∷ [])
     × (silent 18 zero ≡ gives 18 zero)
 unfolding call_of unchecked_of checks_of effect_of after is_sound
 question_cases = (refl, refl, refl, refl)
 
 -- a stored violation of a machine with 3 pages of 256 bytes and 2 programs, and of one with 128 pages of 512 bytes and 8 programs
 pub violations_sound :
-    let small : LastViolation → Machine = λ last. holding last 3 8 [] (live 0 0 User false) 0 [] 2 0 [] in
-    let large : LastViolation → Machine = λ last. holding last 128 9 [] (live 0 0 User false) 0 [] 8 0 [] in
-    (map (λ (last : LastViolation). is_sound (small last))
-    (Absent ∷ denied 0 0 0 ∷ denied 1 1 767 ∷ denied 2 0 0 ∷ denied 0 2 0 ∷ denied 0 255 0 ∷ denied 0 0 768 ∷ denied 65535 255 4294967295 ∷ [])
+    let small : Option Violation → Machine = λ last. holding last 3 8 [] (live 0 0 User false) 0 [] 2 0 [] in
+    let large : Option Violation → Machine = λ last. holding last 128 9 [] (live 0 0 User false) 0 [] 8 0 [] in
+    (map (λ (last : Option Violation). is_sound (small last))
+    (None ∷ denied 0 0 0 ∷ denied 1 1 767 ∷ denied 2 0 0 ∷ denied 0 2 0 ∷ denied 0 255 0 ∷ denied 0 0 768 ∷ denied 65535 255 4294967295 ∷ [])
     ≡ true ∷ true ∷ true ∷ false ∷ false ∷ false ∷ false ∷ false ∷ [])
-    × (map (λ (last : LastViolation). is_sound (large last)) (denied 7 1 65535 ∷ denied 8 1 65535 ∷ denied 7 2 65535 ∷ denied 7 1 65536 ∷ [])
+    × (map (λ (last : Option Violation). is_sound (large last)) (denied 7 1 65535 ∷ denied 8 1 65535 ∷ denied 7 2 65535 ∷ denied 7 1 65536 ∷ [])
     ≡ true ∷ false ∷ false ∷ false ∷ [])
 unfolding is_sound
 violations_sound = (refl, refl)

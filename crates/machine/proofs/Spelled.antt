@@ -18,7 +18,6 @@ use Rattle.machine.specs.Machine.{is_sound, violation_fits}
 use Rattle.machine.specs.declared.record.Machine.{Machine}
 use Rattle.machine.specs.declared.record.Page.{Page}
 use Rattle.machine.specs.declared.record.Domain.{Domain}
-use Rattle.machine.specs.declared.record.LastViolation.TheVariants.{Absent}
 use Rattle.machine.specs.declared.record.Report.TheVariants.{Nothing, Denied, Through}
 use Rattle.machine.specs.declared.record.Answered.{Answered}
 use Rattle.machine.specs.declared.record.Width.{Width}
@@ -26,6 +25,7 @@ use Rattle.machine.specs.declared.record.Width.TheVariants.{One, Two}
 use Rattle.machine.specs.declared.record.Call.{Call}
 use Rattle.machine.specs.declared.record.Call.TheVariants.{Access, Grant, Revoke, SetMask, Enter, Return, Switch, StoreField, StoreContext, StoreMask, StoreMode, AskViolation}
 use Rattle.machine.proofs.Written.{stored, live, denied, holding}
+use Rattle.std.specs.Prelude.{None}
 
 module _ (m : Machine) where
   abbrev number : Call → ℕ
@@ -171,7 +171,7 @@ module _ (m : Machine) where
       → (report_of m (Access width right address)
       ≡ pick privileged Nothing (Through (record { 0 = count_trailing_zeros 16 (bit_and (get_or m.fields (2 * (address / 2 ^ m.exponent) + right) 0) local) })))
       × (map (report_of m) (others right bits page s) ≡ replicate 10 Nothing)
-      × (m.violations.last ≡ Absent → report_of m AskViolation ≡ Nothing)
+      × (m.violations.last ≡ None → report_of m AskViolation ≡ Nothing)
       × (m.violations.last ≡ denied program right' address'
       → report_of m AskViolation ≡ Denied (record { program = program; right = right'; address = address' }))
   unfolding giving_domain
@@ -197,7 +197,7 @@ module _ (m : Machine) where
 -- the three clauses that soundness has for a stored violation
 pub fits_spelled : (programs memory program right address : ℕ)
     → (violation_fits programs memory (denied program right address) ≡ ltb program programs && leb right 1 && ltb address memory)
-    × (violation_fits programs memory Absent ≡ true)
+    × (violation_fits programs memory None ≡ true)
 fits_spelled programs memory program right address = (refl, refl)
 
 -- what comes back of a call on lent parts, of any machine and any answer: all of the answer but that the machine keeps its own fields and stack

@@ -13,8 +13,6 @@ use Rattle.rules.specs.Registers.{is_privileged, local_context, with_mask, with_
 use Rattle.rules.specs.Domains.{holds, prevailing, giving_domain, with_bit, without_bit}
 use Rattle.rules.specs.Refusals.{pick}
 use Rattle.rules.specs.declared.registers.Registers.{Registers}
-use Rattle.rules.specs.declared.domains.Prevailing.{Prevailing}
-use Rattle.rules.specs.declared.domains.Prevailing.TheVariants.{At}
 use Rattle.rules.proofs.Bits.{and_assoc, unseen, seen_alike, unmoved}
 use Rattle.rules.proofs.Lowest.{both_held}
 use Rattle.machine.specs.Machine.{is_sound, place_of, field_of, with_fields, with_registers, with_last}
@@ -22,7 +20,6 @@ use Rattle.machine.specs.Calls.{call_of, checks_of, access_checks, change_checks
 use Rattle.machine.specs.declared.record.Machine.{Machine}
 use Rattle.machine.specs.declared.record.Page.{Page}
 use Rattle.machine.specs.declared.record.Domain.{Domain}
-use Rattle.machine.specs.declared.record.LastViolation.{LastViolation}
 use Rattle.machine.specs.declared.record.Report.{Report}
 use Rattle.machine.specs.declared.record.Report.TheVariants.{Nothing}
 use Rattle.machine.specs.declared.record.Width.{Width}
@@ -31,6 +28,8 @@ use Rattle.machine.specs.declared.record.Call.TheVariants.{Access, Grant, Revoke
 use Rattle.machine.proofs.Entitled.{Entitled, entitled}
 use Rattle.machine.proofs.Touched.{any_same}
 use Rattle.machine.proofs.Answers.{avoids, after_cases, after_both, not_nine, change_avoids, change_checks_lem, change_effect, change_reports}
+use Rattle.std.specs.Prelude.{Option, Some}
+use Rattle.machine.specs.declared.record.Violation.{Violation}
 
 -- the calls of a turn after its entry, switch and return
 pub data IsCommand : Call → Type 0 where
@@ -43,7 +42,7 @@ pub data IsCommand : Call → Type 0 where
 abbrev pub view : ℕ → Machine → List ℕ
 view context m = map (λ (field : ℕ). bit_and field context) m.fields
 
-abbrev pub prevailing_domains : Machine → List Prevailing
+abbrev pub prevailing_domains : Machine → List (Option ℕ)
 prevailing_domains m = map prevailing m.fields
 
 pub map_set : {A B : Type 0} (f : A → B) (l : List A) (i : ℕ) (y : A) → map f (set l i y) ≡ set (map f l) i (f y)
@@ -104,7 +103,7 @@ pub record Stays (m end : Machine) : Type 0 where
   pub prevails : prevailing_domains end ≡ prevailing_domains m
 
 -- a machine that differs in the mask, the flag, the fields or the last violation alone
-stays_with : (m : Machine) (mask : ℕ) (pending : Bool) (fields : List ℕ) (last : LastViolation)
+stays_with : (m : Machine) (mask : ℕ) (pending : Bool) (fields : List ℕ) (last : Option Violation)
     → map prevailing fields ≡ prevailing_domains m
     → Stays m (with_last last (with_fields fields (with_registers (with_mask mask (with_pending pending m.registers)) m)))
 stays_with m mask pending fields last prevails =
@@ -152,7 +151,7 @@ module _ (m : Machine) where
 -- a context that holds no domain of lower level than a prevailing domain that the live context holds
 abbrev pub Below : Machine → ℕ → Type 0
 Below m context =
-    (right page domain s : ℕ) → right ≤ 1 → page < m.pages → prevailing (field_of m right page) ≡ At domain
+    (right page domain s : ℕ) → right ≤ 1 → page < m.pages → prevailing (field_of m right page) ≡ Some domain
     → holds m.registers.context domain ≡ true → domain < s → holds context s ≡ false
 
 -- sees nothing of a command

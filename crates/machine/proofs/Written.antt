@@ -8,12 +8,12 @@ use Rattle.rules.specs.declared.registers.Mode.{Mode}
 use Rattle.rules.specs.declared.registers.Registers.{Registers}
 use Rattle.machine.specs.declared.record.Machine.{Machine}
 use Rattle.machine.specs.declared.record.Program.{Program}
-use Rattle.machine.specs.declared.record.LastViolation.{LastViolation}
-use Rattle.machine.specs.declared.record.LastViolation.TheVariants.{Absent, Was}
 use Rattle.machine.specs.declared.record.Report.TheVariants.{Nothing, Through}
 use Rattle.machine.specs.declared.record.Answered.{Answered}
 use Rattle.machine.specs.declared.record.Call.{Call}
 use Rattle.machine.specs.declared.record.Call.TheVariants.{Grant, Revoke}
+use Rattle.std.specs.Prelude.{Option, None, Some}
+use Rattle.machine.specs.declared.record.Violation.{Violation}
 
 abbrev pub stored : ℕ → ℕ → Mode → Program
 stored context mask mode = record { context = context; mask = mask; mode = mode }
@@ -22,11 +22,11 @@ abbrev pub live : ℕ → ℕ → Mode → Bool → Registers
 live context mask mode pending = record { context = context; mask = mask; mode = mode; pending = pending }
 
 -- the last violation: that program was denied that right to that address
-abbrev pub denied : ℕ → ℕ → ℕ → LastViolation
-denied program right address = Was (record { program = program; right = right; address = address })
+abbrev pub denied : ℕ → ℕ → ℕ → Option Violation
+denied program right address = Some (record { program = program; right = right; address = address })
 
 -- a machine by all its parts, the last violation first
-abbrev pub holding : LastViolation → ℕ → ℕ → List ℕ → Registers → ℕ → List Bool → ℕ → ℕ → List Program → Machine
+abbrev pub holding : Option Violation → ℕ → ℕ → List ℕ → Registers → ℕ → List Bool → ℕ → ℕ → List Program → Machine
 holding last pages exponent fields registers depth saved programs current table =
     record {
       pages = pages;
@@ -43,7 +43,7 @@ holding last pages exponent fields registers depth saved programs current table 
 
 -- one that has no last violation
 abbrev pub whole : ℕ → ℕ → List ℕ → Registers → ℕ → List Bool → ℕ → ℕ → List Program → Machine
-whole = holding Absent
+whole = holding None
 
 -- an answer that reports nothing, written out beside the definition `silent`
 abbrev pub gives : ℕ → Machine → Answered

@@ -1,19 +1,16 @@
 -- The twelve calls (RULES, sections 2 and 3): for each a row of `rule_of`, with its own conditions, in order, its effect, what it
 -- reports and what 9 leaves.
-use Rattle.std.specs.Prelude.{ℕ, ◌+◌, ◌-◌, ◌^◌, ◌/◌, Bool, true, false, not, ◌||◌, List, [], ◌∷◌, leb, ltb, eqb, get_or, set}
+use Rattle.std.specs.Prelude.{ℕ, ◌+◌, ◌-◌, ◌^◌, ◌/◌, Bool, true, false, not, ◌||◌, List, [], ◌∷◌, leb, ltb, eqb, get_or, set, Option, None, Some}
 use Rattle.std.specs.Int.Bits.{bit_and}
 use Rattle.rules.specs.Registers.{is_privileged, mode_where, local_context, mask_checks, with_context, with_mask, with_mode, with_pending}
 use Rattle.rules.specs.Domains.{is_domain, with_bit, without_bit, prevailing, giving_domain, is_outside, is_not_lower}
 use Rattle.rules.specs.Refusals.{Check, ◌⇒◌, first, pick}
 use Rattle.rules.specs.declared.registers.Mode.{Mode}
 use Rattle.rules.specs.declared.registers.Mode.TheVariants.{User, Privileged}
-use Rattle.rules.specs.declared.domains.Prevailing.{Prevailing}
 use Rattle.machine.specs.declared.record.Machine.{Machine}
 use Rattle.machine.specs.declared.record.Program.{Program}
 use Rattle.machine.specs.declared.record.Page.{Page}
 use Rattle.machine.specs.declared.record.Domain.{Domain}
-use Rattle.machine.specs.declared.record.LastViolation.{LastViolation}
-use Rattle.machine.specs.declared.record.LastViolation.TheVariants.{Absent, Was}
 use Rattle.machine.specs.declared.record.Report.{Report}
 use Rattle.machine.specs.declared.record.Report.TheVariants.{Nothing, Denied, Through}
 use Rattle.machine.specs.declared.record.Answered.{Answered}
@@ -22,6 +19,7 @@ use Rattle.machine.specs.declared.record.Width.TheVariants.{One, Two}
 use Rattle.machine.specs.declared.record.Call.{Call}
 use Rattle.machine.specs.declared.record.Call.TheVariants.{Access, Grant, Revoke, SetMask, Enter, Return, Switch, StoreField, StoreContext, StoreMask, StoreMode, AskViolation}
 use Rattle.machine.specs.Machine.{is_right, is_sound, memory_size, place_of, field_of, no_program, with_fields, with_registers, with_stack, with_programs, with_last, with_lent}
+use Rattle.machine.specs.declared.record.Violation.{Violation}
 
 -- RULES 1.10: a number as a page, which cannot be passed for a domain
 abbrev pub as_page : ℕ → Page
@@ -71,7 +69,7 @@ access_checks m right bytes =
     ((m.registers.pending ⇒ 8) ∷ (any (is_denied m right) bytes ⇒ 9) ∷ [])
 
 -- RULES 3.4, 3.6: the own conditions of grant and revoke alike, from the domain that prevails in the field, which the row finds once
-unfoldable pub change_checks : Machine → ℕ → Page → Domain → Prevailing → List Check
+unfoldable pub change_checks : Machine → ℕ → Page → Domain → Option ℕ → List Check
 change_checks m right page s prevails =
     (not (is_right right) ⇒ 2)
     ∷ (not (ltb page.0 m.pages) ⇒ 4)
@@ -116,9 +114,9 @@ switched m program =
     (with_registers (with_context named.context (with_mask named.mask r)) m))
 
 -- RULES 3.25: the last violation as a report; where there is none, nothing is reported
-abbrev pub handed_out : LastViolation → Report
-handed_out Absent = Nothing
-handed_out (Was violation) = Denied violation
+abbrev pub handed_out : Option Violation → Report
+handed_out None = Nothing
+handed_out (Some violation) = Denied violation
 
 -- RULES 1.17, 3.3: the domain through which the page of an address gives the right to the local context
 abbrev pub domain_through : Machine → ℕ → ℕ → Domain
@@ -138,7 +136,7 @@ pub record Rule : Type 0 where
   -- where none of them is met, what it reports
   pub report : Report
   -- where 9 is answered, what that leaves as the last violation (1.16)
-  pub last : LastViolation
+  pub last : Option Violation
 
 -- RULES 2.13, 9.1: a call that reports nothing and never answers 9, by its conditions and its effect
 abbrev pub plain : Machine → List Check → Machine → Rule
@@ -153,7 +151,7 @@ rule_of m (Access width right address) =
       checks = access_checks m right (touched width address);
       effect = m;
       report = named m right address;
-      last = Was (record { program = m.current; right = right; address = address });
+      last = Some (record { program = m.current; right = right; address = address });
     }
 -- RULES 3.4, 3.5: grant sets the bit of s, whatever it was
 rule_of m (Grant right page s) =
@@ -200,7 +198,7 @@ abbrev pub report_of : Machine → Call → Report
 report_of m call = (rule_of m call).report
 
 -- RULES 1.16, 3.3: what an answer of 9 leaves as the last violation
-abbrev pub last_after_violation : Machine → Call → LastViolation
+abbrev pub last_after_violation : Machine → Call → Option Violation
 last_after_violation m call = (rule_of m call).last
 
 -- RULES 2.3, 2.8: a call's number by its own conditions alone

@@ -1,12 +1,11 @@
 -- The machine (RULES, section 1).
-use Rattle.std.specs.Prelude.{ℕ, ◌+◌, ◌*◌, ◌^◌, Bool, true, false, not, ◌&&◌, List, leb, ltb, replicate, get_or}
+use Rattle.std.specs.Prelude.{ℕ, ◌+◌, ◌*◌, ◌^◌, Bool, true, false, not, ◌&&◌, List, leb, ltb, replicate, get_or, Option, None, Some}
 use Rattle.rules.specs.Registers.{is_privileged}
 use Rattle.rules.specs.declared.registers.Mode.TheVariants.{User}
 use Rattle.rules.specs.declared.registers.Registers.{Registers}
 use Rattle.machine.specs.declared.record.Machine.{Machine}
 use Rattle.machine.specs.declared.record.Program.{Program}
-use Rattle.machine.specs.declared.record.LastViolation.{LastViolation}
-use Rattle.machine.specs.declared.record.LastViolation.TheVariants.{Absent, Was}
+use Rattle.machine.specs.declared.record.Violation.{Violation}
 
 -- RULES 1.14, 2.9: an entry of zeros and user mode, which is also what is read past the end of the table
 abbrev pub no_program : Program
@@ -25,7 +24,7 @@ zero =
       programs = 0;
       current = 0;
       table = replicate 8 no_program;
-      violations = record { last = Absent };
+      violations = record { last = None };
     }
 
 -- RULES 1.2, 1.9: page count × page size, the first address that is not in memory
@@ -44,9 +43,9 @@ is_right right = leb right 1
 
 -- RULES 1.11, 1.16: with that program count and that memory size, the last violation is of a program in the table, a right and an address in memory;
 -- or there is none
-abbrev pub violation_fits : ℕ → ℕ → LastViolation → Bool
-violation_fits programs memory Absent = true
-violation_fits programs memory (Was violation) =
+abbrev pub violation_fits : ℕ → ℕ → Option Violation → Bool
+violation_fits programs memory None = true
+violation_fits programs memory (Some violation) =
     ltb violation.program programs && is_right violation.right && ltb violation.address memory
 
 -- RULES 1.11, 1.12: all that soundness asks of a machine, and no more
@@ -129,7 +128,7 @@ with_programs current table m =
     }
 
 -- RULES 3.1: the machine with another last violation
-abbrev pub with_last : LastViolation → Machine → Machine
+abbrev pub with_last : Option Violation → Machine → Machine
 with_last last m =
     record {
       pages = m.pages;

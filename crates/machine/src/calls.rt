@@ -4,39 +4,29 @@
 // for soundness; where the test fails it answers `unsound`. The switch alone hands its test on (docs/PERFORMANCE.md).
 // In the calls themselves an array is indexed only in a local or lent, the number comes first, what an accepted call changes is
 // chosen by it, and the answer is made once at the end.
-ghost use Rattle.std.specs.Prelude.{◌≡◌, ◌+◌, ◌-◌, ◌*◌, ◌^◌, ◌/◌, leb, eqb, get_or};
+ghost use Rattle.std.specs.Prelude.{◌≡◌, false, ◌+◌, ◌*◌, ◌^◌, ◌/◌, leb, eqb, get_or};
 ghost use Rattle.std.specs.Int.Bits.{bit_and};
 ghost use Rattle.rules.specs.Domains.{prevailing, giving_domain, with_bit, without_bit};
-ghost use Rattle.rules.specs.Refusals.{pick, first};
-ghost use Rattle.machine.specs.Machine.{place_of, with_fields, with_stack};
+ghost use Rattle.rules.specs.Refusals.{pick, first, outcome_number, given_or};
+ghost use Rattle.rules.specs.Registers.{mode_where};
+ghost use Rattle.machine.specs.Machine.{place_of, with_fields, with_registers, with_stack};
 ghost use Rattle.machine.specs.declared.record.Call.{Call};
 ghost use Rattle.machine.specs.declared.record.Report.TheVariants.{Nothing, Through};
 ghost use Rattle.machine.specs.Calls.{as_domain, call_of, unchecked_of, answer_by, own_number_of, keeping, change_call, touched, any, access_checks, change_checks, mode_of, silent};
 
 use crate::record::{
-    Answered, Domain, LastViolation, Machine, Page, Program, Report, Violation, Violations, Width,
-    page_of, place, read_field, read_program, read_saved, write_field, write_program, write_saved,
+    Answered, Domain, Machine, Page, Program, Report, Violation, Violations, Width, page_of, place,
+    store_at,
 };
 use rules::decisions::{
-    access_number, change_number, entry_number, field_number, mode_number, register_number,
-    return_number, switch_number,
+    check_access, check_change, check_entry, check_field_store, check_mode_store,
+    check_register_store, check_return, check_switch,
 };
-use rules::domains::{giving_domain, prevailing_of, with_bit, without_bit};
-use rules::registers::{Mode, replace_mask};
-
-// The new value where a call was accepted, else the old one.
-fn chosen(done: bool, new: u16, old: u16) -> u16
-    ensures { result ≡ pick done new old }
-{
-    if done { new } else { old }
-}
-
-// A number behind the test for 1 (RULES 2.4).
-fn checked(unsound: bool, number: u8) -> u8
-    ensures { result ≡ pick unsound 1 number }
-{
-    if unsound { 1 } else { number }
-}
+use rules::domains::{
+    giving_domain, is_not_lower, is_outside, prevailing_of, with_bit, without_bit,
+};
+use rules::refusals::{Refusal, outcome_number};
+use rules::registers::{Mode, Registers, replace_mask};
 
 // The bits of a field after an accepted grant or revocation.
 fn changed_bits(granting: bool, field: u16, s: u16) -> u16
@@ -48,24 +38,36 @@ fn changed_bits(granting: bool, field: u16, s: u16) -> u16
     without_bit(field, s)
 }
 
-// The place below a depth.
-fn below(depth: u8) -> usize
-    ensures { result ≡ depth - 1 }
+// An outcome behind the test for 1 (RULES 2.4).
+fn checked(unsound: bool, outcome: Result<(), Refusal>) -> Result<(), Refusal>
+    ensures { outcome_number result ≡ pick unsound 1 (outcome_number outcome) }
 {
-    if depth == 0 {
-        return 0;
+    if unsound {
+        Err(Refusal::Unsound)
+    } else {
+        outcome
     }
-    (depth - 1) as usize
+}
+
+// An outcome is a violation, which alone of the refusals changes the machine (RULES 2.5).
+fn is_violation(outcome: Result<(), Refusal>) -> bool
+    ensures { result ≡ eqb (outcome_number outcome) 9 }
+{
+    matches!(outcome, Err(Refusal::Violation))
+}
+
+// The mode that is saved at a place of a lent stack; user past its end (RULES 2.10).
+fn saved_mode(saved: &[bool], at: u8) -> Mode
+    ensures { result ≡ mode_where (get_or saved.now at false) }
+{
+    saved.get(at as usize).copied().unwrap_or(false).into()
 }
 
 // The mode of a number (RULES 3.23).
 pub fn mode_of(number: u16) -> Mode
     ensures { result ≡ mode_of number }
 {
-    if number == 0 {
-        return Mode::User;
-    }
-    Mode::Privileged
+    (number != 0).into()
 }
 
 // The byte so far ahead of an address is outside memory.
@@ -91,7 +93,7 @@ fn field_at(fields: &[u16], exponent: u8, right: u8, address: u32, ahead: u8) ->
     ensures { result ≡ get_or fields.now (place_of right ((address + ahead) / 2 ^ exponent)) 0 }
 {
     let page = page_of(address, ahead, exponent) as usize;
-    read_field(fields, 2 * page + right as usize)
+    fields.get(2 * page + right as usize).copied().unwrap_or(0)
 }
 
 // The page of the byte so far ahead of an address does not give the right through a local context.
@@ -129,10 +131,11 @@ fn any_denied(
 fn report_through(done: bool, field: u16, local: u16) -> Report
     ensures { result ≡ pick done (Through (as_domain (giving_domain field local))) Nothing }
 {
-    if !done {
-        return Report::Nothing;
+    if done {
+        Report::Through(Domain(giving_domain(field, local)))
+    } else {
+        Report::Nothing
     }
-    Report::Through(Domain(giving_domain(field, local)))
 }
 
 impl Answered {
@@ -140,47 +143,60 @@ impl Answered {
     fn with_saved(self, saved: [bool; 8]) -> Answered
         ensures { result ≡ record { number = self.number; machine = with_stack self.machine.depth saved self.machine; report = self.report } }
     {
-        let mut machine = self.machine;
-        let report = self.report;
-        machine.saved = saved;
-        Answered {
-            number: self.number,
-            machine,
-            report,
-        }
+        let machine = Machine {
+            saved,
+            ..self.machine
+        };
+        Answered { machine, ..self }
     }
 }
 
 impl Machine {
+    // An answer that reports nothing (RULES 2.13).
+    fn silent(self, outcome: Result<(), Refusal>) -> Answered
+        ensures { result ≡ silent (outcome_number outcome) self }
+    {
+        Answered {
+            number: outcome_number(outcome),
+            machine: self,
+            report: Report::Nothing,
+        }
+    }
+
     // The refusal for 1 (RULES 2.4).
     fn unsound(self) -> Answered
         ensures { result ≡ silent 1 self }
     {
-        Answered {
-            number: 1,
-            machine: self,
-            report: Report::Nothing,
-        }
+        self.silent(Err(Refusal::Unsound))
     }
 
-    // A number, and the machine with the fields that were lent.
-    fn answered_with(mut self, number: u8, fields: [u16; 256]) -> Answered
-        ensures { result ≡ silent number (with_fields fields self) }
+    // The answer of a call that changes the live registers alone: to those given, or to none where it is refused.
+    fn with_registers(self, outcome: Result<Registers, Refusal>) -> Answered
+        ensures { result ≡ silent (outcome_number outcome) (with_registers (given_or self.registers outcome) self) }
     {
-        self.fields = fields;
+        let machine = Machine {
+            registers: outcome.unwrap_or(self.registers),
+            ..self
+        };
         Answered {
-            number,
-            machine: self,
+            number: outcome_number(outcome),
+            machine,
             report: Report::Nothing,
         }
     }
 
-    // The number of an access, from the fields that are lent.
-    fn number_of_access(self, fields: &[u16], width: Width, right: u8, address: u32) -> u8
-        ensures { result ≡ first (access_checks (with_fields fields.now self) right (touched width address)) }
+    // What refuses an access, from the fields that are lent.
+    fn check_access(
+        self,
+        fields: &[u16],
+        width: Width,
+        right: u8,
+        address: u32,
+    ) -> Result<(), Refusal>
+        ensures { outcome_number result ≡ first (access_checks (with_fields fields.now self) right (touched width address)) }
     {
         let registers = self.registers;
-        access_number(
+        check_access(
             !(right <= 1),
             any_outside(self.pages, self.exponent, width, address),
             registers.privileged(),
@@ -202,18 +218,18 @@ impl Machine {
         ensures { result ≡ keeping self (unchecked_of (with_fields fields.now self) (Call.Access width right address)) }
     {
         let mut registers = self.registers;
-        let number = self.number_of_access(fields, width, right, address);
+        let outcome = self.check_access(fields, width, right, address);
         let mut violations = self.violations;
         let field = field_at(fields, self.exponent, right, address, 0);
         let report = report_through(
-            (number == 0) & !registers.privileged(),
+            outcome.is_ok() & !registers.privileged(),
             field,
             registers.local(),
         );
-        if number == 9 {
+        if is_violation(outcome) {
             registers = registers.with_pending(true);
             violations = Violations {
-                last: LastViolation::Was(Violation {
+                last: Some(Violation {
                     program: self.current,
                     right,
                     address,
@@ -223,7 +239,7 @@ impl Machine {
         self.registers = registers;
         self.violations = violations;
         Answered {
-            number,
+            number: outcome_number(outcome),
             machine: self,
             report,
         }
@@ -240,20 +256,20 @@ impl Machine {
         self.access_lent(&fields, width, right, address)
     }
 
-    // The number of a grant or a revocation, from the field of that right to that page.
-    fn number_of_change(self, right: u8, page: Page, domain: Domain, field: u16) -> u8
-        ensures { result ≡ first (change_checks self right page domain (prevailing field)) }
+    // What refuses a grant or a revocation, from the field of that right to that page.
+    fn check_change(self, right: u8, page: Page, domain: Domain, field: u16) -> Result<(), Refusal>
+        ensures { outcome_number result ≡ first (change_checks self right page domain (prevailing field)) }
     {
         let registers = self.registers;
-        let prevails = prevailing_of(field);
-        change_number(
+        let prevailing = prevailing_of(field);
+        check_change(
             !(right <= 1),
             !(page.0 < self.pages),
             !(domain.0 < Machine::DOMAINS),
             registers.privileged(),
             registers.pending,
-            prevails.outside(registers.local()),
-            prevails.not_lower(domain.0),
+            is_outside(prevailing, registers.local()),
+            is_not_lower(prevailing, domain.0),
         )
     }
 
@@ -265,54 +281,48 @@ impl Machine {
         right: u8,
         page: Page,
         domain: Domain,
-    ) -> u8
-        ensures value { result ≡ (unchecked_of (with_fields fields.old self) (change_call granting right page domain)).number }
+    ) -> Result<(), Refusal>
+        ensures value { outcome_number result ≡ (unchecked_of (with_fields fields.old self) (change_call granting right page domain)).number }
         ensures fields_after { fields.new ≡ (unchecked_of (with_fields fields.old self) (change_call granting right page domain)).machine.fields }
     {
         let at = place(right, page.0 as u32);
-        let field = read_field(fields, at);
-        let number = self.number_of_change(right, page, domain, field);
-        let changed = changed_bits(granting, field, domain.0);
-        write_field(fields, at, chosen(number == 0, changed, field));
-        number
+        let field = fields.get(at).copied().unwrap_or(0);
+        self.check_change(right, page, domain, field)?;
+        store_at(fields, at, changed_bits(granting, field, domain.0));
+        Ok(())
+    }
+
+    // The grant or the revocation by value.
+    fn change(self, granting: bool, right: u8, page: Page, domain: Domain) -> Answered
+        ensures { result ≡ call_of self (change_call granting right page domain) }
+    {
+        if !self.sound() {
+            return self.unsound();
+        }
+        let mut fields = self.fields;
+        let outcome = self.change_lent(&mut fields, granting, right, page, domain);
+        Machine { fields, ..self }.silent(outcome)
     }
 
     // Grant of a right to a page to a domain (RULES 3.4, 3.5).
     pub fn grant(self, right: u8, page: Page, domain: Domain) -> Answered
         ensures { result ≡ call_of self (Call.Grant right page domain) }
     {
-        if !self.sound() {
-            return self.unsound();
-        }
-        let mut fields = self.fields;
-        let number = self.change_lent(&mut fields, true, right, page, domain);
-        self.answered_with(number, fields)
+        self.change(true, right, page, domain)
     }
 
     // Revoke of a right to a page from a domain (RULES 3.6, 3.7).
     pub fn revoke(self, right: u8, page: Page, domain: Domain) -> Answered
         ensures { result ≡ call_of self (Call.Revoke right page domain) }
     {
-        if !self.sound() {
-            return self.unsound();
-        }
-        let mut fields = self.fields;
-        let number = self.change_lent(&mut fields, false, right, page, domain);
-        self.answered_with(number, fields)
+        self.change(false, right, page, domain)
     }
 
     // The mask command, without the check for 1 (RULES 2.8).
-    pub fn set_mask_unchecked(mut self, mask: u16) -> Answered
+    pub fn set_mask_unchecked(self, mask: u16) -> Answered
         ensures { result ≡ unchecked_of self (Call.SetMask mask) }
     {
-        let done = replace_mask(self.registers, mask);
-        let after = done.registers;
-        self.registers = after;
-        Answered {
-            number: done.number,
-            machine: self,
-            report: Report::Nothing,
-        }
+        self.with_registers(replace_mask(self.registers, mask))
     }
 
     // The mask command (RULES 3.8, 3.9). `set_mask_lent` is the one on a register record.
@@ -332,20 +342,15 @@ impl Machine {
     {
         let mut registers = self.registers;
         let mut depth = self.depth;
-        let number = entry_number(!(depth < Machine::DEPTH));
-        if depth < Machine::DEPTH {
-            let mode = registers.mode;
-            write_saved(saved, depth as usize, mode);
+        let outcome = check_entry(!(depth < Machine::DEPTH));
+        if outcome.is_ok() {
+            store_at(saved, depth as usize, registers.privileged());
             registers = registers.with_pending(false).with_mode(Mode::Privileged);
             depth += 1;
         }
         self.registers = registers;
         self.depth = depth;
-        Answered {
-            number,
-            machine: self,
-            report: Report::Nothing,
-        }
+        self.silent(outcome)
     }
 
     // Interrupt entry (RULES 3.10, 3.11).
@@ -367,21 +372,16 @@ impl Machine {
     {
         let mut registers = self.registers;
         let mut depth = self.depth;
-        let number = return_number(!registers.privileged(), depth == 0);
-        if number == 0 {
-            let top = below(depth);
-            let mode = read_saved(saved, top);
-            write_saved(saved, top, Mode::User);
+        let outcome = check_return(!registers.privileged(), depth == 0);
+        if outcome.is_ok() {
+            depth = depth.saturating_sub(1);
+            let mode = saved_mode(saved, depth);
+            store_at(saved, depth as usize, false);
             registers = registers.with_mode(mode);
-            depth = top as u8;
         }
         self.registers = registers;
         self.depth = depth;
-        Answered {
-            number,
-            machine: self,
-            report: Report::Nothing,
-        }
+        self.silent(outcome)
     }
 
     // Return from an interrupt (RULES 3.12, 3.13).
@@ -405,36 +405,33 @@ impl Machine {
         let mut registers = self.registers;
         let mut current = self.current;
         let mut table = self.table;
-        let number = checked(
+        let outcome = checked(
             unsound,
-            switch_number(
+            check_switch(
                 !registers.privileged(),
                 !(self.depth == 1),
                 !(program < self.programs),
             ),
         );
-        if number == 0 {
+        if outcome.is_ok() {
             let live = Program {
                 context: registers.context,
                 mask: registers.mask,
-                mode: read_saved(saved, 0),
+                mode: saved_mode(saved, 0),
             };
-            let stored = write_program(table, current, live);
-            let named = read_program(stored, program);
-            let mode = named.mode;
-            write_saved(saved, 0, mode);
+            store_at(&mut table, current as usize, live);
+            let named = table
+                .get(program as usize)
+                .copied()
+                .unwrap_or(Program::NONE);
+            store_at(saved, 0, named.mode.privileged());
             registers = registers.with_mask(named.mask).with_context(named.context);
-            table = stored;
             current = program;
         }
         self.registers = registers;
         self.current = current;
         self.table = table;
-        Answered {
-            number,
-            machine: self,
-            report: Report::Nothing,
-        }
+        self.silent(outcome)
     }
 
     // Switch to a program on a lent stack, which it alters there (RULES 2.10).
@@ -455,20 +452,24 @@ impl Machine {
     }
 
     // The kernel's store of a field on lent fields, which it alters there: its number (RULES 2.10).
-    pub fn store_lent(self, fields: &mut [u16], right: u8, page: Page, bits: u16) -> u8
-        ensures value { result ≡ (unchecked_of (with_fields fields.old self) (Call.StoreField right page bits)).number }
+    pub fn store_lent(
+        self,
+        fields: &mut [u16],
+        right: u8,
+        page: Page,
+        bits: u16,
+    ) -> Result<(), Refusal>
+        ensures value { outcome_number result ≡ (unchecked_of (with_fields fields.old self) (Call.StoreField right page bits)).number }
         ensures fields_after { fields.new ≡ (unchecked_of (with_fields fields.old self) (Call.StoreField right page bits)).machine.fields }
     {
         let registers = self.registers;
-        let number = field_number(
+        check_field_store(
             !(right <= 1),
             !(page.0 < self.pages),
             !registers.privileged(),
-        );
-        let at = place(right, page.0 as u32);
-        let field = read_field(fields, at);
-        write_field(fields, at, chosen(number == 0, bits, field));
-        number
+        )?;
+        store_at(fields, place(right, page.0 as u32), bits);
+        Ok(())
     }
 
     // The kernel's store of a field (RULES 3.16, 3.17).
@@ -479,23 +480,17 @@ impl Machine {
             return self.unsound();
         }
         let mut fields = self.fields;
-        let number = self.store_lent(&mut fields, right, page, bits);
-        self.answered_with(number, fields)
+        let outcome = self.store_lent(&mut fields, right, page, bits);
+        Machine { fields, ..self }.silent(outcome)
     }
 
     // The kernel's store of the global context, without the check for 1 (RULES 2.8).
-    pub fn store_context_unchecked(mut self, bits: u16) -> Answered
+    pub fn store_context_unchecked(self, bits: u16) -> Answered
         ensures { result ≡ unchecked_of self (Call.StoreContext bits) }
     {
         let registers = self.registers;
-        let number = register_number(!registers.privileged());
-        let after = registers.replaced_where(number == 0, registers.with_context(bits));
-        self.registers = after;
-        Answered {
-            number,
-            machine: self,
-            report: Report::Nothing,
-        }
+        let outcome = check_register_store(!registers.privileged());
+        self.with_registers(outcome.map(|()| registers.with_context(bits)))
     }
 
     // The kernel's store of the global context (RULES 3.18, 3.19).
@@ -509,18 +504,12 @@ impl Machine {
     }
 
     // The kernel's store of the mask, without the check for 1 (RULES 2.8).
-    pub fn store_mask_unchecked(mut self, bits: u16) -> Answered
+    pub fn store_mask_unchecked(self, bits: u16) -> Answered
         ensures { result ≡ unchecked_of self (Call.StoreMask bits) }
     {
         let registers = self.registers;
-        let number = register_number(!registers.privileged());
-        let after = registers.replaced_where(number == 0, registers.with_mask(bits));
-        self.registers = after;
-        Answered {
-            number,
-            machine: self,
-            report: Report::Nothing,
-        }
+        let outcome = check_register_store(!registers.privileged());
+        self.with_registers(outcome.map(|()| registers.with_mask(bits)))
     }
 
     // The kernel's store of the mask (RULES 3.20, 3.21).
@@ -534,18 +523,12 @@ impl Machine {
     }
 
     // The kernel's store of the mode, without the check for 1 (RULES 2.8).
-    pub fn store_mode_unchecked(mut self, mode: u16) -> Answered
+    pub fn store_mode_unchecked(self, mode: u16) -> Answered
         ensures { result ≡ unchecked_of self (Call.StoreMode mode) }
     {
         let registers = self.registers;
-        let number = mode_number(!(mode <= 1), !registers.privileged());
-        let after = registers.replaced_where(number == 0, registers.with_mode(mode_of(mode)));
-        self.registers = after;
-        Answered {
-            number,
-            machine: self,
-            report: Report::Nothing,
-        }
+        let outcome = check_mode_store(!(mode <= 1), !registers.privileged());
+        self.with_registers(outcome.map(|()| registers.with_mode(mode_of(mode))))
     }
 
     // The kernel's store of the mode (RULES 3.22, 3.23).
@@ -563,10 +546,10 @@ impl Machine {
         ensures { result ≡ unchecked_of self Call.AskViolation }
     {
         let registers = self.registers;
-        let number = register_number(!registers.privileged());
-        let report = self.violations.handed_out(number == 0);
+        let outcome = check_register_store(!registers.privileged());
+        let report = self.violations.handed_out(outcome.is_ok());
         Answered {
-            number,
+            number: outcome_number(outcome),
             machine: self,
             report,
         }

@@ -9,7 +9,7 @@ ghost use Rattle.machine.specs.declared.record.Report.TheVariants.{Nothing};
 use rules::registers::{Mode, Registers};
 
 // What is stored for a program: global context, mask and mode (RULES 1.2).
-#[derive(Clone, Copy)]
+#[derive(Clone, Copy, Debug, PartialEq, Eq)]
 pub struct Program {
     pub context: u16,
     pub mask: u16,
@@ -17,36 +17,29 @@ pub struct Program {
 }
 
 // A page number, which cannot be passed for a domain number (RULES 1.10).
-#[derive(Clone, Copy)]
+#[derive(Clone, Copy, Debug, PartialEq, Eq)]
 pub struct Page(pub u16);
 
 // A domain number.
-#[derive(Clone, Copy)]
+#[derive(Clone, Copy, Debug, PartialEq, Eq)]
 pub struct Domain(pub u16);
 
 // A violation: the program that was denied, and the right and the whole address of its access (RULES 1.16).
-#[derive(Clone, Copy)]
+#[derive(Clone, Copy, Debug, PartialEq, Eq)]
 pub struct Violation {
     pub program: u16,
     pub right: u8,
     pub address: u32,
 }
 
-// The last violation, or that there was none since the load.
-#[derive(Clone, Copy)]
-pub enum LastViolation {
-    Absent,
-    Was(Violation),
-}
-
-// What the machine keeps of violations. A struct around the enum, since a field that is an enum cannot be stored to by itself.
-#[derive(Clone, Copy)]
+// What the machine keeps of violations: the last one, if there was one since the load.
+#[derive(Clone, Copy, Debug, PartialEq, Eq)]
 pub struct Violations {
-    pub last: LastViolation,
+    pub last: Option<Violation>,
 }
 
 // The parts of RULES 1.2. The field of a right r to page p stands at 2p + r. A saved mode is kept as whether it is privileged.
-#[derive(Clone, Copy)]
+#[derive(Clone, Copy, Debug, PartialEq, Eq)]
 pub struct Machine {
     pub pages: u16,
     pub exponent: u8,
@@ -61,7 +54,7 @@ pub struct Machine {
 }
 
 // What an answer reports beside its number and its machine (RULES 2.13).
-#[derive(Clone, Copy)]
+#[derive(Clone, Copy, Debug, PartialEq, Eq)]
 pub enum Report {
     Nothing,
     Denied(Violation),
@@ -69,7 +62,7 @@ pub enum Report {
 }
 
 // What a call gives back: its number, the machine after it, and what it reports (RULES 2.1).
-#[derive(Clone, Copy)]
+#[derive(Clone, Copy, Debug, PartialEq, Eq)]
 pub struct Answered {
     pub number: u8,
     pub machine: Machine,
@@ -77,14 +70,14 @@ pub struct Answered {
 }
 
 // How many bytes an access touches (RULES 3.2).
-#[derive(Clone, Copy)]
+#[derive(Clone, Copy, Debug, PartialEq, Eq)]
 pub enum Width {
     One,
     Two,
 }
 
 // One of the twelve calls (RULES 2.1), with arguments as RULES 2.6 has them.
-#[derive(Clone, Copy)]
+#[derive(Clone, Copy, Debug, PartialEq, Eq)]
 pub enum Call {
     Access(Width, u8, u32),
     Grant(u8, Page, Domain),
@@ -100,30 +93,33 @@ pub enum Call {
     AskViolation,
 }
 
+impl Program {
+    // An entry of zeros and user mode (RULES 1.14), which is also what is read past the end of the table (RULES 2.9).
+    pub const NONE: Program = Program {
+        context: 0,
+        mask: 0,
+        mode: Mode::User,
+    };
+}
+
 impl Violations {
     // Whether a sound machine of this program count and memory size may keep them (RULES 1.11).
     pub fn fit(self, programs: u16, memory: u32) -> bool
         ensures { result ≡ violation_fits programs memory self.last }
     {
-        let last = self.last;
-        let LastViolation::Was(violation) = last else {
-            return true;
-        };
-        (violation.program < programs) & (violation.right <= 1) & (violation.address < memory)
+        self.last.is_none_or(|violation| {
+            (violation.program < programs) & (violation.right <= 1) & (violation.address < memory)
+        })
     }
 
     // What the question for the last one reports: it where the question is answered, nothing where it is refused (RULES 2.13, 3.25).
     pub fn handed_out(self, answered: bool) -> Report
         ensures { result ≡ pick answered (handed_out self.last) Nothing }
     {
-        if !answered {
-            return Report::Nothing;
+        match self.last {
+            Some(violation) if answered => Report::Denied(violation),
+            _ => Report::Nothing,
         }
-        let last = self.last;
-        let LastViolation::Was(violation) = last else {
-            return Report::Nothing;
-        };
-        Report::Denied(violation)
     }
 }
 
@@ -155,14 +151,8 @@ impl Machine {
             saved: [false; 8],
             programs: 0,
             current: 0,
-            table: [Program {
-                context: 0,
-                mask: 0,
-                mode: Mode::User,
-            }; 8],
-            violations: Violations {
-                last: LastViolation::Absent,
-            },
+            table: [Program::NONE; 8],
+            violations: Violations { last: None },
         }
     }
 
@@ -219,64 +209,11 @@ pub fn place(right: u8, page: u32) -> usize
     2 * (page as usize) + right as usize
 }
 
-// The field at a place of lent fields; 0 past their end.
-pub fn read_field(fields: &[u16], at: usize) -> u16
-    ensures { result ≡ get_or fields.now at 0 }
+// An item at a place of a lent slice; past its end nothing is stored.
+pub fn store_at<T: Copy>(items: &mut [T], at: usize, item: T)
+    ensures { items.new ≡ set items.old at item }
 {
-    if at < fields.len() {
-        return fields[at];
+    if at < items.len() {
+        items[at] = item;
     }
-    0
-}
-
-// Other bits in the field at a place of lent fields; past their end nothing is stored.
-pub fn write_field(fields: &mut [u16], at: usize, bits: u16)
-    ensures { fields.new ≡ set fields.old at bits }
-{
-    if at < fields.len() {
-        fields[at] = bits;
-    }
-}
-
-// The mode saved at a place of a lent stack; user past its end.
-pub fn read_saved(saved: &[bool], at: usize) -> Mode
-    ensures { result ≡ mode_where (get_or saved.now at false) }
-{
-    if at < saved.len() {
-        return Mode::where_privileged(saved[at]);
-    }
-    Mode::User
-}
-
-// Another mode at a place of a lent stack; past its end nothing is stored.
-pub fn write_saved(saved: &mut [bool], at: usize, mode: Mode)
-    ensures { saved.new ≡ set saved.old at (is_privileged mode) }
-{
-    if at < saved.len() {
-        saved[at] = mode.privileged();
-    }
-}
-
-// The entry of a program; all zero past the table's end.
-pub fn read_program(table: [Program; 8], at: u16) -> Program
-    ensures { result ≡ get_or table at no_program }
-{
-    if at < 8 {
-        return table[at as usize];
-    }
-    Program {
-        context: 0,
-        mask: 0,
-        mode: Mode::User,
-    }
-}
-
-// The table with another entry of a program; past its end nothing is stored.
-pub fn write_program(mut table: [Program; 8], at: u16, entry: Program) -> [Program; 8]
-    ensures { result ≡ set table at entry }
-{
-    if at < 8 {
-        table[at as usize] = entry;
-    }
-    table
 }

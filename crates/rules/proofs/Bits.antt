@@ -13,7 +13,7 @@ use native.Mathlib.Nat.{mod-lt, zero-lt-suc, pow-suc, mod-eq_of_lt, mod_self, mo
 use native.Mathlib.Omega.{arith}
 use Rattle.rules.specs.Domains.{domain_bit, holds, with_bit, without_bit, prevailing}
 use Rattle.rules.specs.Refusals.{pick}
-use Rattle.rules.specs.declared.domains.Prevailing.TheVariants.{Absent, At}
+use Rattle.std.specs.Prelude.{None, Some}
 use Rattle.rules.proofs.Decided.{and_both}
 use Rattle.rules.proofs.Laws.{domain_bit_lem}
 
@@ -157,13 +157,13 @@ lower_cleared field s known =
     (and_mod field (65535 - 2 ^ s) s ∙ rw (lower_parts s known) (and_mask (field % 2 ^ s) s ∙ mod-mod field (2 ^ s)))
 
 -- a field that differs from another only from s on has the same prevailing domain, where that is below s
-prevailing_same : (field field' s d : ℕ) → s < 16 → field' % 2 ^ s ≡ field % 2 ^ s → prevailing field ≡ At d → d < s
+prevailing_same : (field field' s d : ℕ) → s < 16 → field' % 2 ^ s ≡ field % 2 ^ s → prevailing field ≡ Some d → d < s
     → prevailing field' ≡ prevailing field
 unfolding prevailing
 prevailing_same field field' s d known same at less = split (eqb field 0) refl at
   where
-    split : (b : Bool) → eqb field 0 ≡ b → pick b Absent (At (count_trailing_zeros 16 field)) ≡ At d
-        → pick (eqb field' 0) Absent (At (count_trailing_zeros 16 field')) ≡ pick b Absent (At (count_trailing_zeros 16 field))
+    split : (b : Bool) → eqb field 0 ≡ b → pick b None (Some (count_trailing_zeros 16 field)) ≡ Some d
+        → pick (eqb field' 0) None (Some (count_trailing_zeros 16 field')) ≡ pick b None (Some (count_trailing_zeros 16 field))
     split true e f = cc
     split false e f =
         let place : count_trailing_zeros 16 field ≡ d = cc in
@@ -171,7 +171,7 @@ prevailing_same field field' s d known same at less = split (eqb field 0) refl a
         rw (ne_eqb field' 0 (λ (none : field' ≡ 0). omega (arith, ap (count_trailing_zeros 16) none, trailing_of_zero 16)), there)
 
 -- a domain of lower level than the prevailing one, granted or revoked, does not move it
-pub unmoved : (field s d : ℕ) → s < 16 → prevailing field ≡ At d → d < s → (granting : Bool)
+pub unmoved : (field s d : ℕ) → s < 16 → prevailing field ≡ Some d → d < s → (granting : Bool)
     → prevailing (pick granting (with_bit field s) (without_bit field s)) ≡ prevailing field
 unmoved field s d known at less true = prevailing_same field (with_bit field s) s d known (lower_set field s known) at less
 unmoved field s d known at less false =

@@ -13,7 +13,7 @@ use Rattle.rules.specs.Domains.{domain_bit, holds, prevailing, is_outside, is_no
 use Rattle.rules.specs.declared.registers.Mode.{Mode}
 use Rattle.rules.specs.declared.registers.Mode.TheVariants.{User, Privileged}
 use Rattle.rules.specs.declared.registers.Registers.{Registers}
-use Rattle.rules.specs.declared.domains.Prevailing.TheVariants.{Absent, At}
+use Rattle.std.specs.Prelude.{None, Some}
 
 -- RULES 1.6: each of the sixteen domains has a bit, and no other number has one
 pub domain_bit_lem : (s : ℕ) → s < 16 → domain_bit s ≡ 2 ^ s
@@ -37,12 +37,12 @@ unfolding prevailing
 empty_field_refused local = refl
 
 -- RULES 3.4: a domain does not act on its own level
-pub own_level_refused : (s : ℕ) → is_not_lower (At s) s ≡ true
+pub own_level_refused : (s : ℕ) → is_not_lower (Some s) s ≡ true
 own_level_refused s = le-leb s s (le_refl s)
 
 -- the lowest-numbered bit set, computed for some fields
 pub prevailing_cases :
-    map prevailing (1 ∷ 9 ∷ 12 ∷ 32768 ∷ 65535 ∷ 0 ∷ []) ≡ At 0 ∷ At 0 ∷ At 2 ∷ At 15 ∷ At 0 ∷ Absent ∷ []
+    map prevailing (1 ∷ 9 ∷ 12 ∷ 32768 ∷ 65535 ∷ 0 ∷ []) ≡ Some 0 ∷ Some 0 ∷ Some 2 ∷ Some 15 ∷ Some 0 ∷ None ∷ []
 unfolding prevailing count_trailing_zeros
 prevailing_cases = refl
 

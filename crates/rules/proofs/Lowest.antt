@@ -12,7 +12,7 @@ use native.Mathlib.Nat.{pow-suc, pow-succ', div-div-eq-div-mul, div-one, zero-mu
 use native.Mathlib.Omega.{arith}
 use Rattle.rules.specs.Domains.{domain_bit, holds, with_bit, without_bit, prevailing, giving_domain}
 use Rattle.rules.specs.Refusals.{pick}
-use Rattle.rules.specs.declared.domains.Prevailing.TheVariants.{Absent, At}
+use Rattle.std.specs.Prelude.{None, Some}
 use Rattle.rules.proofs.Bits.{digit, every, every_holds}
 use Rattle.rules.proofs.Decided.{and_both}
 use Rattle.rules.proofs.Laws.{domain_bit_lem, no_domain_bit, no_domain_held}
@@ -212,12 +212,12 @@ one_shared one two small some =
     (_, sym (held_both one two _) ∙ lowest.1)
 
 -- RULES 1.8: where a domain prevails, the field holds it and none of lower number
-pub prevailing_lowest : (field d : ℕ) → field < 65536 → prevailing field ≡ At d
+pub prevailing_lowest : (field d : ℕ) → field < 65536 → prevailing field ≡ Some d
     → (d < 16) × (holds field d ≡ true) × ((s : ℕ) → s < d → holds field s ≡ false)
 unfolding prevailing
 prevailing_lowest field d small at = split (eqb field 0) refl at
   where
-    split : (b : Bool) → eqb field 0 ≡ b → pick b Absent (At (count_trailing_zeros 16 field)) ≡ At d
+    split : (b : Bool) → eqb field 0 ≡ b → pick b None (Some (count_trailing_zeros 16 field)) ≡ Some d
         → (d < 16) × (holds field d ≡ true) × ((s : ℕ) → s < d → holds field s ≡ false)
     split true e f = absurd (true≢false cc)
     split false e f =
@@ -225,11 +225,11 @@ prevailing_lowest field d small at = split (eqb field 0) refl at
         rw (← place) (lowest_held field e small)
 
 -- RULES 1.8: where none prevails, the field is empty
-pub prevailing_absent : (field : ℕ) → prevailing field ≡ Absent → field ≡ 0
+pub prevailing_absent : (field : ℕ) → prevailing field ≡ None → field ≡ 0
 unfolding prevailing
 prevailing_absent field none = split (eqb field 0) refl none
   where
-    split : (b : Bool) → eqb field 0 ≡ b → pick b Absent (At (count_trailing_zeros 16 field)) ≡ Absent → field ≡ 0
+    split : (b : Bool) → eqb field 0 ≡ b → pick b None (Some (count_trailing_zeros 16 field)) ≡ None → field ≡ 0
     split true e f = eqb-true field 0 e
     split false e f = cc
 

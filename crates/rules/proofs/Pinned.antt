@@ -7,13 +7,12 @@ use mathlib.Core.List.{List, [], ◌∷◌, map}
 use lib.Count.{ones_in, count_trailing_zeros}
 use lib.Dec.{leb}
 use Rattle.rules.specs.Refusals.{first, pick, ◌⇒◌}
-use Rattle.rules.specs.Registers.{is_privileged, mode_where, local_context, with_context, with_mask, with_mode, with_pending, masked_of}
+use Rattle.rules.specs.Registers.{Masked, is_privileged, mode_where, local_context, with_context, with_mask, with_mode, with_pending, masked_of}
 use Rattle.rules.specs.Domains.{is_domain, domain_bit, holds, domain_count, prevailing, giving_domain, is_outside, is_not_lower, with_bit, without_bit}
 use Rattle.rules.specs.declared.registers.Mode.{Mode}
 use Rattle.rules.specs.declared.registers.Mode.TheVariants.{User, Privileged}
 use Rattle.rules.specs.declared.registers.Registers.{Registers}
-use Rattle.rules.specs.declared.registers.Masked.{Masked}
-use Rattle.rules.specs.declared.domains.Prevailing.TheVariants.{Absent, At}
+use Rattle.std.specs.Prelude.{Option, None, Some}
 
 -- the first condition that is met decides, and 0 stands for none
 pub first_met :
@@ -61,12 +60,12 @@ domains_held = (refl, refl)
 
 -- the prevailing domain of each bit alone, and beside all bits above it
 pub prevailing_each :
-    let at_each = At 0 ∷ At 1 ∷ At 2 ∷ At 3 ∷ At 4 ∷ At 5 ∷ At 6 ∷ At 7 ∷ At 8 ∷ At 9 ∷ At 10 ∷ At 11 ∷ At 12 ∷ At 13 ∷ At 14 ∷ At 15 ∷ [] in
+    let at_each : List (Option ℕ) = Some 0 ∷ Some 1 ∷ Some 2 ∷ Some 3 ∷ Some 4 ∷ Some 5 ∷ Some 6 ∷ Some 7 ∷ Some 8 ∷ Some 9 ∷ Some 10 ∷ Some 11 ∷ Some 12 ∷ Some 13 ∷ Some 14 ∷ Some 15 ∷ [] in
     (map prevailing bits ≡ at_each)
     × (map prevailing
     (65535 ∷ 65534 ∷ 65532 ∷ 65528 ∷ 65520 ∷ 65504 ∷ 65472 ∷ 65408 ∷ 65280 ∷ 65024 ∷ 64512 ∷ 63488 ∷ 61440 ∷ 57344 ∷ 49152 ∷ 32768 ∷ [])
     ≡ at_each)
-    × (prevailing 0 ≡ Absent)
+    × (prevailing 0 ≡ None)
 unfolding prevailing count_trailing_zeros
 prevailing_each = (refl, refl, refl)
 
@@ -82,19 +81,19 @@ giving_each = (refl, refl, refl)
 -- an absent prevailing domain is outside every context, and no domain is of lower level than it; another is outside where the context lacks
 -- it, and only higher numbers are of lower level
 pub levels :
-    (map (is_outside Absent) (0 ∷ 65535 ∷ []) ≡ true ∷ true ∷ [])
-    × (map (is_outside (At 9)) (0 ∷ 0x0200 ∷ 0xFDFF ∷ 65535 ∷ 1 ∷ []) ≡ true ∷ false ∷ true ∷ false ∷ true ∷ [])
-    × (map (is_not_lower Absent) (0 ∷ 9 ∷ 15 ∷ 16 ∷ []) ≡ true ∷ true ∷ true ∷ true ∷ [])
-    × (map (is_not_lower (At 9)) (0 ∷ 8 ∷ 9 ∷ 10 ∷ 15 ∷ []) ≡ true ∷ true ∷ true ∷ false ∷ false ∷ [])
+    (map (is_outside None) (0 ∷ 65535 ∷ []) ≡ true ∷ true ∷ [])
+    × (map (is_outside (Some 9)) (0 ∷ 0x0200 ∷ 0xFDFF ∷ 65535 ∷ 1 ∷ []) ≡ true ∷ false ∷ true ∷ false ∷ true ∷ [])
+    × (map (is_not_lower None) (0 ∷ 9 ∷ 15 ∷ 16 ∷ []) ≡ true ∷ true ∷ true ∷ true ∷ [])
+    × (map (is_not_lower (Some 9)) (0 ∷ 8 ∷ 9 ∷ 10 ∷ 15 ∷ []) ≡ true ∷ true ∷ true ∷ false ∷ false ∷ [])
 unfolding domain_bit
 levels = (refl, refl, refl, refl)
 
 -- the same for every domain, also for 15: no domain is of lower level than it, so that who may act on a field in which it prevails shows in no answer of 0
 pub levels_spelled : (domain local s : ℕ)
-    → (is_outside Absent local ≡ true)
-    × (is_outside (At domain) local ≡ not (holds local domain))
-    × (is_not_lower (At domain) s ≡ leb s domain)
-    × (is_not_lower Absent s ≡ true)
+    → (is_outside None local ≡ true)
+    × (is_outside (Some domain) local ≡ not (holds local domain))
+    × (is_not_lower (Some domain) s ≡ leb s domain)
+    × (is_not_lower None s ≡ true)
 levels_spelled domain local s = (refl, refl, refl, refl)
 
 abbrev registers : ℕ → ℕ → Mode → Bool → Registers

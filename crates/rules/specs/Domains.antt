@@ -1,10 +1,8 @@
 -- Domains as bits of a field or a context, the domain that prevails in a field, and the one that a field shares with a context (RULES, section 1).
-use Rattle.std.specs.Prelude.{ℕ, ◌-◌, ◌^◌, Bool, true, not, ltb, eqb, leb}
+use Rattle.std.specs.Prelude.{ℕ, ◌-◌, ◌^◌, Bool, true, not, ltb, eqb, leb, Option, None, Some}
 use Rattle.std.specs.Int.Bits.{bit_and, bit_or}
 use Rattle.std.specs.Int.Count.{ones_in, count_trailing_zeros}
 use Rattle.rules.specs.Refusals.{pick}
-use Rattle.rules.specs.declared.domains.Prevailing.{Prevailing}
-use Rattle.rules.specs.declared.domains.Prevailing.TheVariants.{Absent, At}
 
 -- RULES 1.1, 1.6: there are sixteen domains, and a number above 15 is none
 abbrev pub is_domain : ℕ → Bool
@@ -31,8 +29,8 @@ abbrev pub without_bit : ℕ → ℕ → ℕ
 without_bit field s = bit_and field (65535 - domain_bit s)
 
 -- RULES 1.8: the lowest-numbered domain that the whole field holds, no context being looked at; an empty field has none
-unfoldable pub prevailing : ℕ → Prevailing
-prevailing field = pick (eqb field 0) Absent (At (count_trailing_zeros 16 field))
+unfoldable pub prevailing : ℕ → Option ℕ
+prevailing field = pick (eqb field 0) None (Some (count_trailing_zeros 16 field))
 
 -- RULES 1.17: the domain through which a field gives a right to a local context: the lowest-numbered one that both hold. It is not the prevailing
 -- domain, which the field has without a context. Where they share none it is 16, which is no domain.
@@ -40,11 +38,11 @@ unfoldable pub giving_domain : (field local : ℕ) → ℕ
 giving_domain field local = count_trailing_zeros 16 (bit_and field local)
 
 -- RULES 3.4, for 11: no domain prevails, or the local context does not hold the one that does
-abbrev pub is_outside : Prevailing → ℕ → Bool
-is_outside Absent local = true
-is_outside (At domain) local = not (holds local domain)
+abbrev pub is_outside : Option ℕ → ℕ → Bool
+is_outside None local = true
+is_outside (Some domain) local = not (holds local domain)
 
 -- RULES 3.4, for 12: s is the prevailing domain itself, or has a lower number. Where none prevails 11 has come before.
-abbrev pub is_not_lower : Prevailing → ℕ → Bool
-is_not_lower Absent s = true
-is_not_lower (At domain) s = leb s domain
+abbrev pub is_not_lower : Option ℕ → ℕ → Bool
+is_not_lower None s = true
+is_not_lower (Some domain) s = leb s domain

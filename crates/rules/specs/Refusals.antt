@@ -55,9 +55,9 @@ refusal_number NoMask = 34
 
 module _ {A : Type 0} where
   -- RULES 2.3: the number of an outcome: 0 where nothing refuses it
-  abbrev pub number_of : Result A Refusal → ℕ
-  number_of (Ok given) = 0
-  number_of (Err refusal) = refusal_number refusal
+  abbrev pub outcome_number : Result A Refusal → ℕ
+  outcome_number (Ok given) = 0
+  outcome_number (Err refusal) = refusal_number refusal
 
   -- what an outcome gives, or what stands for that where it is refused
   abbrev pub given_or : A → Result A Refusal → A

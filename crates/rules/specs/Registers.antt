@@ -5,7 +5,6 @@ use Rattle.rules.specs.Refusals.{Check, first, pick, ◌⇒◌}
 use Rattle.rules.specs.declared.registers.Mode.{Mode}
 use Rattle.rules.specs.declared.registers.Mode.TheVariants.{User, Privileged}
 use Rattle.rules.specs.declared.registers.Registers.{Registers}
-use Rattle.rules.specs.declared.registers.Masked.{Masked}
 
 -- RULES 1.2: a mode is user or privileged
 abbrev pub is_privileged : Mode → Bool
@@ -47,6 +46,11 @@ mask_checks r bits = (is_privileged r.mode ⇒ 6) ∷ (r.pending ⇒ 8) ∷ (is_
 -- RULES 2.11: the number of the mask command on a lent record, where there is no 1
 abbrev pub mask_number : Registers → ℕ → ℕ
 mask_number r bits = first (mask_checks r bits)
+
+-- RULES 2.11: what the mask command makes of a register record: its number, and the record after it
+pub record Masked : Type 0 where
+  pub number : ℕ
+  pub registers : Registers
 
 -- RULES 2.11, 3.9: the mask in the record becomes the given one, every bit of it; a refusal leaves the record as it was
 unfoldable pub masked_of : Registers → ℕ → Masked

@@ -1,36 +1,38 @@
-// The number of each call from its own conditions (RULES, section 3): that of the first one that is met.
+// What refuses each call, from its own conditions (RULES, section 3): the first one that is met.
 // The test for 1, which stands before them all, is the machine's.
 ghost use Rattle.std.specs.Prelude.{◌≡◌, [], ◌∷◌};
-ghost use Rattle.rules.specs.Refusals.{first, pick, ◌⇒◌};
+ghost use Rattle.rules.specs.Refusals.{first, pick, outcome_number, ◌⇒◌};
 
-pub fn access_number(
+use crate::refusals::Refusal;
+
+pub fn check_access(
     badright: bool,
     outside: bool,
     privileged: bool,
     pending: bool,
     denied: bool,
-) -> u8
-    ensures { result ≡ first ((badright ⇒ 2) ∷ (outside ⇒ 3) ∷ pick privileged [] ((pending ⇒ 8) ∷ (denied ⇒ 9) ∷ [])) }
+) -> Result<(), Refusal>
+    ensures { outcome_number result ≡ first ((badright ⇒ 2) ∷ (outside ⇒ 3) ∷ pick privileged [] ((pending ⇒ 8) ∷ (denied ⇒ 9) ∷ [])) }
 {
     if badright {
-        return 2;
+        return Err(Refusal::NoSuchRight);
     }
     if outside {
-        return 3;
+        return Err(Refusal::OutsideMemory);
     }
     if privileged {
-        return 0;
+        return Ok(());
     }
     if pending {
-        return 8;
+        return Err(Refusal::InterruptPending);
     }
     if denied {
-        return 9;
+        return Err(Refusal::Violation);
     }
-    0
+    Ok(())
 }
 
-pub fn change_number(
+pub fn check_change(
     badright: bool,
     badpage: bool,
     baddomain: bool,
@@ -38,117 +40,117 @@ pub fn change_number(
     pending: bool,
     outside: bool,
     notlower: bool,
-) -> u8
-    ensures { result ≡ first ((badright ⇒ 2) ∷ (badpage ⇒ 4) ∷ (baddomain ⇒ 5) ∷ (privileged ⇒ 6) ∷ (pending ⇒ 8) ∷ (outside ⇒ 11) ∷ (notlower ⇒ 12) ∷ []) }
+) -> Result<(), Refusal>
+    ensures { outcome_number result ≡ first ((badright ⇒ 2) ∷ (badpage ⇒ 4) ∷ (baddomain ⇒ 5) ∷ (privileged ⇒ 6) ∷ (pending ⇒ 8) ∷ (outside ⇒ 11) ∷ (notlower ⇒ 12) ∷ []) }
 {
     if badright {
-        return 2;
+        return Err(Refusal::NoSuchRight);
     }
     if badpage {
-        return 4;
+        return Err(Refusal::NoSuchPage);
     }
     if baddomain {
-        return 5;
+        return Err(Refusal::NoSuchDomain);
     }
     if privileged {
-        return 6;
+        return Err(Refusal::PrivilegedMode);
     }
     if pending {
-        return 8;
+        return Err(Refusal::InterruptPending);
     }
     if outside {
-        return 11;
+        return Err(Refusal::NotPrevailing);
     }
     if notlower {
-        return 12;
+        return Err(Refusal::NotLower);
     }
-    0
+    Ok(())
 }
 
-pub fn mask_number(privileged: bool, pending: bool, emptymask: bool) -> u8
-    ensures { result ≡ first ((privileged ⇒ 6) ∷ (pending ⇒ 8) ∷ (emptymask ⇒ 19) ∷ []) }
+pub fn check_mask(privileged: bool, pending: bool, emptymask: bool) -> Result<(), Refusal>
+    ensures { outcome_number result ≡ first ((privileged ⇒ 6) ∷ (pending ⇒ 8) ∷ (emptymask ⇒ 19) ∷ []) }
 {
     if privileged {
-        return 6;
+        return Err(Refusal::PrivilegedMode);
     }
     if pending {
-        return 8;
+        return Err(Refusal::InterruptPending);
     }
     if emptymask {
-        return 19;
+        return Err(Refusal::EmptyMask);
     }
-    0
+    Ok(())
 }
 
-pub fn entry_number(full: bool) -> u8
-    ensures { result ≡ first ((full ⇒ 13) ∷ []) }
+pub fn check_entry(full: bool) -> Result<(), Refusal>
+    ensures { outcome_number result ≡ first ((full ⇒ 13) ∷ []) }
 {
     if full {
-        return 13;
+        return Err(Refusal::StackFull);
     }
-    0
+    Ok(())
 }
 
-pub fn return_number(user: bool, empty: bool) -> u8
-    ensures { result ≡ first ((user ⇒ 7) ∷ (empty ⇒ 14) ∷ []) }
+pub fn check_return(user: bool, empty: bool) -> Result<(), Refusal>
+    ensures { outcome_number result ≡ first ((user ⇒ 7) ∷ (empty ⇒ 14) ∷ []) }
 {
     if user {
-        return 7;
+        return Err(Refusal::UserMode);
     }
     if empty {
-        return 14;
+        return Err(Refusal::StackEmpty);
     }
-    0
+    Ok(())
 }
 
-pub fn switch_number(user: bool, notone: bool, badprogram: bool) -> u8
-    ensures { result ≡ first ((user ⇒ 7) ∷ (notone ⇒ 15) ∷ (badprogram ⇒ 16) ∷ []) }
+pub fn check_switch(user: bool, notone: bool, badprogram: bool) -> Result<(), Refusal>
+    ensures { outcome_number result ≡ first ((user ⇒ 7) ∷ (notone ⇒ 15) ∷ (badprogram ⇒ 16) ∷ []) }
 {
     if user {
-        return 7;
+        return Err(Refusal::UserMode);
     }
     if notone {
-        return 15;
+        return Err(Refusal::DepthNotOne);
     }
     if badprogram {
-        return 16;
+        return Err(Refusal::NoSuchProgram);
     }
-    0
+    Ok(())
 }
 
-pub fn field_number(badright: bool, badpage: bool, user: bool) -> u8
-    ensures { result ≡ first ((badright ⇒ 2) ∷ (badpage ⇒ 4) ∷ (user ⇒ 7) ∷ []) }
+pub fn check_field_store(badright: bool, badpage: bool, user: bool) -> Result<(), Refusal>
+    ensures { outcome_number result ≡ first ((badright ⇒ 2) ∷ (badpage ⇒ 4) ∷ (user ⇒ 7) ∷ []) }
 {
     if badright {
-        return 2;
+        return Err(Refusal::NoSuchRight);
     }
     if badpage {
-        return 4;
+        return Err(Refusal::NoSuchPage);
     }
     if user {
-        return 7;
+        return Err(Refusal::UserMode);
     }
-    0
+    Ok(())
 }
 
 // Of a call that is refused in user mode alone: the kernel's stores of the global context and the mask, and its question for the last violation.
-pub fn register_number(user: bool) -> u8
-    ensures { result ≡ first ((user ⇒ 7) ∷ []) }
+pub fn check_register_store(user: bool) -> Result<(), Refusal>
+    ensures { outcome_number result ≡ first ((user ⇒ 7) ∷ []) }
 {
     if user {
-        return 7;
+        return Err(Refusal::UserMode);
     }
-    0
+    Ok(())
 }
 
-pub fn mode_number(badmode: bool, user: bool) -> u8
-    ensures { result ≡ first ((badmode ⇒ 17) ∷ (user ⇒ 7) ∷ []) }
+pub fn check_mode_store(badmode: bool, user: bool) -> Result<(), Refusal>
+    ensures { outcome_number result ≡ first ((badmode ⇒ 17) ∷ (user ⇒ 7) ∷ []) }
 {
     if badmode {
-        return 17;
+        return Err(Refusal::NoSuchMode);
     }
     if user {
-        return 7;
+        return Err(Refusal::UserMode);
     }
-    0
+    Ok(())
 }

@@ -2,13 +2,6 @@
 ghost use Rattle.std.specs.Prelude.{◌≡◌};
 ghost use Rattle.rules.specs.Domains.{domain_bit, holds, domain_count, with_bit, without_bit, prevailing, giving_domain, is_outside, is_not_lower};
 
-// The domain that prevails in a field, if there is one (RULES 1.8): no number stands in for a domain that is not there.
-#[derive(Clone, Copy)]
-pub enum Prevailing {
-    Absent,
-    At(u16),
-}
-
 // The number with bit s set alone, 0 where there is no domain s (RULES 1.6). One case a domain, to be read beside figure 2 of Lopriore's
 // paper; bit 0 is the last digit. By the contract and `domain_bit_lem` (proofs/Laws.antt) case s is 2 to the power s.
 #[tactic(auto, unfolding(crate::specs::Domains::domain_bit))]
@@ -52,7 +45,7 @@ pub fn holds_domain(set: u16, s: u16) -> bool
 pub fn domain_count(set: u16) -> u32
     ensures { result ≡ domain_count set }
 {
-    u16::count_ones(set)
+    set.count_ones()
 }
 
 pub fn with_bit(field: u16, s: u16) -> u16
@@ -67,15 +60,15 @@ pub fn without_bit(field: u16, s: u16) -> u16
     field & !domain_bit(s)
 }
 
-// The lowest-numbered domain of the whole field (RULES 1.8).
+// The domain that prevails in a field, if there is one: the lowest-numbered domain of the whole field (RULES 1.8).
 #[tactic(auto, unfolding(crate::specs::Domains::prevailing))]
-pub fn prevailing_of(field: u16) -> Prevailing
+pub fn prevailing_of(field: u16) -> Option<u16>
     ensures { result ≡ prevailing field }
 {
     if field == 0 {
-        return Prevailing::Absent;
+        return None;
     }
-    Prevailing::At(u16::trailing_zeros(field) as u16)
+    Some(field.trailing_zeros() as u16)
 }
 
 // The lowest-numbered domain that a field and a local context both hold, through which the field gives its right (RULES 1.17); 16 where they share none, which no
@@ -84,27 +77,19 @@ pub fn prevailing_of(field: u16) -> Prevailing
 pub fn giving_domain(field: u16, local: u16) -> u16
     ensures { result ≡ giving_domain field local }
 {
-    u16::trailing_zeros(field & local) as u16
+    (field & local).trailing_zeros() as u16
 }
 
-impl Prevailing {
-    // Absent, or outside the local context.
-    pub fn outside(self, local: u16) -> bool
-        ensures { result ≡ is_outside self local }
-    {
-        match self {
-            Prevailing::Absent => true,
-            Prevailing::At(domain) => !holds_domain(local, domain),
-        }
-    }
+// No domain prevails, or one outside the local context.
+pub fn is_outside(prevailing: Option<u16>, local: u16) -> bool
+    ensures { result ≡ is_outside prevailing local }
+{
+    prevailing.is_none_or(|domain| !holds_domain(local, domain))
+}
 
-    // Domain s is not of lower level than this one.
-    pub fn not_lower(self, s: u16) -> bool
-        ensures { result ≡ is_not_lower self s }
-    {
-        match self {
-            Prevailing::Absent => true,
-            Prevailing::At(domain) => s <= domain,
-        }
-    }
+// No domain prevails, or domain s is not of lower level than the one that does.
+pub fn is_not_lower(prevailing: Option<u16>, s: u16) -> bool
+    ensures { result ≡ is_not_lower prevailing s }
+{
+    prevailing.is_none_or(|domain| s <= domain)
 }

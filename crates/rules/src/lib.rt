@@ -1,5 +1,5 @@
 // What the registers alone decide: modes, the register record, domain bits, the local context, the prevailing domain,
-// and for each call the number that its conditions give.
+// and for each call what refuses it by its conditions.
 #![tactic(auto)]
 
 pub mod decisions;
@@ -7,6 +7,5 @@ pub mod domains;
 pub mod refusals;
 pub mod registers;
 
-pub use domains::Prevailing;
-pub use refusals::{Refusal, number_of};
-pub use registers::{Masked, Mode, Registers};
+pub use refusals::{Refusal, outcome_number};
+pub use registers::{Mode, Registers};

@@ -1,6 +1,6 @@
 // The refusals (RULES, section 9), and the number of each.
 ghost use Rattle.std.specs.Prelude.{◌≡◌};
-ghost use Rattle.rules.specs.Refusals.{refusal_number, number_of};
+ghost use Rattle.rules.specs.Refusals.{refusal_number, outcome_number};
 
 // Why a call, a load, a writing, a plan or a least mask is refused (RULES 9.1). Each has its number there. 10, 28 and 29 are given by nothing (RULES 9.2).
 #[derive(Clone, Copy, Debug, PartialEq, Eq)]
@@ -78,8 +78,8 @@ impl From<Refusal> for u8 {
 }
 
 // The number of an outcome: 0 where nothing refuses it (RULES 2.3).
-pub fn number_of<T: Copy>(outcome: Result<T, Refusal>) -> u8
-    ensures { result ≡ number_of outcome }
+pub fn outcome_number<T: Copy>(outcome: Result<T, Refusal>) -> u8
+    ensures { result ≡ outcome_number outcome }
 {
     match outcome {
         Ok(_) => 0,

@@ -1,19 +1,20 @@
 // The live registers (RULES, section 1), and the mask command on a record of them (RULES 2.11).
 ghost use Rattle.std.specs.Prelude.{◌≡◌};
-ghost use Rattle.rules.specs.Refusals.{pick};
+ghost use Rattle.rules.specs.Refusals.{outcome_number, given_or};
 ghost use Rattle.rules.specs.Registers.{is_privileged, mode_where, local_context, with_context, with_mask, with_mode, with_pending, masked_of};
 
-use crate::decisions::mask_number;
+use crate::decisions::check_mask;
+use crate::refusals::Refusal;
 
 // The live mode, and a saved or stored one.
-#[derive(Clone, Copy)]
+#[derive(Clone, Copy, Debug, PartialEq, Eq)]
 pub enum Mode {
     User = 0,
     Privileged = 1,
 }
 
 // The register record (RULES 1.3): global context, mask, mode and the pending flag.
-#[derive(Clone, Copy)]
+#[derive(Clone, Copy, Debug, PartialEq, Eq)]
 pub struct Registers {
     pub context: u16,
     pub mask: u16,
@@ -21,31 +22,24 @@ pub struct Registers {
     pub pending: bool,
 }
 
-// What the mask command makes of a register record: its number, and the record after it.
-#[derive(Clone, Copy)]
-pub struct Masked {
-    pub number: u8,
-    pub registers: Registers,
-}
-
 impl Mode {
     pub fn privileged(self) -> bool
         ensures { result ≡ is_privileged self }
     {
-        match self {
-            Mode::User => false,
-            Mode::Privileged => true,
-        }
+        self == Mode::Privileged
     }
+}
 
-    // The mode from whether it is privileged.
-    pub fn where_privileged(privileged: bool) -> Mode
-        ensures { result ≡ mode_where privileged }
-    {
+// The mode from whether it is privileged.
+impl From<bool> for Mode {
+    ghost from_gives = { λ privileged mode. mode ≡ mode_where privileged };
+
+    fn from(privileged: bool) -> Mode {
         if privileged {
-            return Mode::Privileged;
+            Mode::Privileged
+        } else {
+            Mode::User
         }
-        Mode::User
     }
 }
 
@@ -53,8 +47,7 @@ impl Registers {
     pub fn privileged(self) -> bool
         ensures { result ≡ is_privileged self.mode }
     {
-        let mode = self.mode;
-        mode.privileged()
+        self.mode.privileged()
     }
 
     // The local context: the part of the global context that the mask lets through (RULES 1.7).
@@ -67,71 +60,41 @@ impl Registers {
     pub fn with_context(self, bits: u16) -> Registers
         ensures { result ≡ with_context bits self }
     {
-        let mode = self.mode;
         Registers {
             context: bits,
-            mask: self.mask,
-            mode,
-            pending: self.pending,
+            ..self
         }
     }
 
     pub fn with_mask(self, bits: u16) -> Registers
         ensures { result ≡ with_mask bits self }
     {
-        let mode = self.mode;
-        Registers {
-            context: self.context,
-            mask: bits,
-            mode,
-            pending: self.pending,
-        }
+        Registers { mask: bits, ..self }
     }
 
     pub fn with_mode(self, mode: Mode) -> Registers
         ensures { result ≡ with_mode mode self }
     {
-        Registers {
-            context: self.context,
-            mask: self.mask,
-            mode,
-            pending: self.pending,
-        }
+        Registers { mode, ..self }
     }
 
     pub fn with_pending(self, pending: bool) -> Registers
         ensures { result ≡ with_pending pending self }
     {
-        let mode = self.mode;
-        Registers {
-            context: self.context,
-            mask: self.mask,
-            mode,
-            pending,
-        }
-    }
-
-    // These registers, or others where a call was accepted.
-    pub fn replaced_where(self, done: bool, others: Registers) -> Registers
-        ensures { result ≡ pick done others self }
-    {
-        if done { others } else { self }
+        Registers { pending, ..self }
     }
 }
 
-// The mask command on a register record, without the check for 1 (RULES 2.11).
+// The mask command on a register record, without the check for 1: the registers with the mask in them, or why they stay as they are (RULES 2.11).
 #[tactic(auto, unfolding(crate::specs::Registers::masked_of))]
-pub fn replace_mask(registers: Registers, mask: u16) -> Masked
-    ensures { result ≡ masked_of registers mask }
+pub fn replace_mask(registers: Registers, mask: u16) -> Result<Registers, Refusal>
+    ensures number { outcome_number result ≡ (masked_of registers mask).number }
+    ensures registers_after { given_or registers result ≡ (masked_of registers mask).registers }
 {
-    let number = mask_number(
+    check_mask(
         registers.privileged(),
         registers.pending,
         mask & registers.context == 0,
-    );
-    let after = registers.replaced_where(number == 0, registers.with_mask(mask));
-    Masked {
-        number,
-        registers: after,
-    }
+    )?;
+    Ok(registers.with_mask(mask))
 }

@@ -1,7 +1,9 @@
 -- `Machine::enter_lent` meets its contract: below depth 8 the entry is accepted, and only there.
 use mathlib.Core.Path.{◌≡◌, refl, ap, ◌∙◌}
-use native.Mathlib.Omega.{arith}
-use borrow.Author.Tests.{lt-ltb, le-ltb}
+use Rattle.std.specs.Prelude.{is_ok}
+use Rattle.std.proofs.Common.{rules}
+use Rattle.rules.specs.Refusals.{outcome_number}
+use Rattle.rules.proofs.Outcomes.{done_zero, not_done}
 use Rattle.rules.specs.Registers.{with_mode}
 use Rattle.rules.specs.declared.registers.Mode.TheVariants.{Privileged}
 use Rattle.machine.specs.Machine.{with_stack}
@@ -9,7 +11,7 @@ use Rattle.machine.specs.Calls.{unchecked_of, checks_of, effect_of, entered, own
 use Rattle.machine.specs.declared.record.Call.TheVariants.{Enter}
 use Rattle.machine.proofs.Answers.{done, kept, with_stack_lem}
 use Rattle.machine.proofs.LentParts.{lent_stack}
-use Rattle.machine.proofs.record.Machine.enter_lent.Goals.{then-depth-lt-DEPTH, else-depth-lt-DEPTH}
+use Rattle.machine.proofs.record.Machine.enter_lent.Goals.{then-is_ok, else-is_ok}
 use Rattle.machine.proofs.record.Machine.enter_lent.Goals as goal
 
 pub returns : goal.returns
@@ -17,19 +19,20 @@ unfolding unchecked_of checks_of effect_of entered
 returns c =
     let own = c.args.self in
     let m = with_stack own.depth c.args.saved.now own in
-    let n = c.entry_number-number.result in
-    let number : n ≡ own_number_of m Enter = c.entry_number-number.ensures in
+    let outcome = c.check_entry-outcome.result in
+    let number : outcome_number outcome ≡ own_number_of m Enter = c.check_entry-outcome.ensures in
+    let tested : is_ok outcome ≡ c.is_ok.result = search rules in
     let both =
     lent_stack own
-    (elim c.if-depth-lt-DEPTH.branch [
-      | then-depth-lt-DEPTH w ↦
-          done m Enter number (number ∙ rw (lt-ltb own.depth 8 w.if-depth-lt-DEPTH.true))
-          (with_stack_lem m w.depth-is (w.saved-is ∙ w.write_saved.ensures)
+    (elim c.if-is_ok.branch [
+      | then-is_ok w ↦
+          done m Enter number (done_zero outcome (tested ∙ w.if-is_ok.true))
+          (with_stack_lem m w.depth-is (w.saved-is ∙ w.store_at.ensures ∙ rw w.privileged.ensures)
           (w.registers-is ∙ w.with_mode-registers.ensures ∙ ap (with_mode Privileged) w.with_pending.ensures)) refl
-      | else-depth-lt-DEPTH w ↦
+      | else-is_ok w ↦
           kept m Enter (checks_of m Enter) number refl
-          (λ z. let full : n ≡ 13 = number ∙ rw (le-ltb own.depth 8 w.if-depth-lt-DEPTH.false) in omega (arith, full, z))
+          (not_done outcome (tested ∙ w.if-is_ok.false))
           (with_stack_lem m w.depth-is w.saved-is w.registers-is)
     ])
     refl in
-    record { value = both.0; saved_after = both.1 }
+    record { value = c.silent.ensures ∙ both.0; saved_after = both.1 }

@@ -1,4 +1,5 @@
 -- `Machine::set_mask_unchecked` meets its contract: it changes the registers alone, as the mask command on the register record does.
+use Rattle.std.proofs.Common.{◌∙◌}
 use mathlib.Core.Path.{refl}
 use Rattle.rules.specs.Registers.{masked_of}
 use Rattle.machine.specs.Calls.{checks_of, effect_of}
@@ -10,5 +11,5 @@ pub returns : goal.returns
 unfolding checks_of effect_of masked_of
 returns c =
     let a = c.args in
-    let done = c.replace_mask-done.ensures in
-    registers_answered a.self (SetMask a.mask) (rw done) refl refl refl (rw done)
+    let made = c.replace_mask.ensures in
+    c.with_registers.ensures ∙ registers_answered a.self (SetMask a.mask) made.number refl refl refl (made.registers_after ∙ rw made.number)

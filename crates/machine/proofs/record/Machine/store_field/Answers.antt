@@ -10,6 +10,6 @@ returns-then-not-sound c = c.unsound.ensures ∙ unsound_answers _ _ c.sound.ens
 
 pub returns : goal.returns
 returns c =
-    let made = c.store_lent-number.ensures in
+    let made = c.store_lent-outcome.ensures in
     sound_answers _ _ c.sound.ensures (ap not c.if-not-sound.false)
-    (c.answered_with.ensures ∙ rw (made.value, made.fields_after) (store_alone _ _ _ _))
+    (c.silent.ensures ∙ rw (made.value, made.fields_after) (store_alone _ _ _ _))

@@ -1,6 +1,10 @@
 -- `Machine::store_mode_unchecked` meets its contract: it changes the registers alone.
+use Rattle.std.proofs.Common.{rules, ◌≡◌, ◌∙◌}
 use mathlib.Core.Path.{refl}
-use Rattle.machine.specs.Calls.{checks_of, effect_of}
+use lib.Dec.{eqb}
+use Rattle.rules.specs.Refusals.{pick, outcome_number, given_or}
+use Rattle.rules.specs.Registers.{with_mode}
+use Rattle.machine.specs.Calls.{checks_of, effect_of, mode_of, own_number_of}
 use Rattle.machine.specs.declared.record.Call.TheVariants.{StoreMode}
 use Rattle.machine.proofs.Answers.{registers_answered}
 use Rattle.machine.proofs.record.Machine.store_mode_unchecked.Goals as goal
@@ -9,5 +13,7 @@ pub returns : goal.returns
 unfolding checks_of effect_of
 returns c =
     let a = c.args in
-    registers_answered a.self (StoreMode a.mode) (rw (c.mode_number-number.ensures, c.privileged.ensures)) refl refl refl
-    (rw (c.replaced_where-after.ensures, c.with_mode.ensures, c.mode_of.ensures))
+    let live = a.self.registers in
+    let number : outcome_number c.map.result ≡ own_number_of a.self (StoreMode a.mode) = search rules in
+    let given : given_or live c.map.result ≡ pick (eqb (outcome_number c.map.result) 0) (with_mode (mode_of a.mode) live) live = search rules in
+    c.with_registers.ensures ∙ registers_answered a.self (StoreMode a.mode) number refl refl refl given

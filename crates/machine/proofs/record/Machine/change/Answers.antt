@@ -1,15 +1,15 @@
--- `Machine::revoke` meets its contract: the call on the machine's own fields, behind the test for soundness.
+-- `Machine::change` meets its contract: the call on the machine's own fields, behind the test for soundness.
 use mathlib.Core.Path.{ap, ◌∙◌}
-use mathlib.Core.Bool.{false, not}
+use mathlib.Core.Bool.{not}
 use Rattle.machine.proofs.LentParts.{change_alone}
 use Rattle.machine.proofs.Answers.{sound_answers, unsound_answers}
-use Rattle.machine.proofs.record.Machine.revoke.Goals as goal
+use Rattle.machine.proofs.record.Machine.change.Goals as goal
 
 pub returns-then-not-sound : goal.returns-then-not-sound
 returns-then-not-sound c = c.unsound.ensures ∙ unsound_answers _ _ c.sound.ensures (ap not c.if-not-sound.true)
 
 pub returns : goal.returns
 returns c =
-    let made = c.change_lent-number.ensures in
+    let made = c.change_lent-outcome.ensures in
     sound_answers _ _ c.sound.ensures (ap not c.if-not-sound.false)
-    (c.answered_with.ensures ∙ rw (made.value, made.fields_after) (change_alone _ false _ _ _))
+    (c.silent.ensures ∙ rw (made.value, made.fields_after) (change_alone _ _ _ _ _))

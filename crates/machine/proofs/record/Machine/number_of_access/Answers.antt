@@ -1,8 +1,0 @@
--- `Machine::number_of_access` meets its contract: its tests are the conditions of the list.
-use Rattle.machine.specs.Calls.{access_checks}
-use Rattle.machine.proofs.record.Machine.number_of_access.Goals as goal
-
-pub returns : goal.returns
-unfolding access_checks
-returns c =
-    rw (c.access_number.ensures, c.any_denied.ensures, c.local.ensures, c.privileged.ensures, c.any_outside.ensures)

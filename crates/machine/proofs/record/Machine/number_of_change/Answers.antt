@@ -1,8 +1,0 @@
--- `Machine::number_of_change` meets its contract: its tests are the conditions of the list, one by one.
-use Rattle.machine.specs.Calls.{change_checks}
-use Rattle.machine.proofs.record.Machine.number_of_change.Goals as goal
-
-pub returns : goal.returns
-unfolding change_checks
-returns c =
-    rw (c.change_number.ensures, c.not_lower.ensures, c.outside.ensures, c.local.ensures, c.privileged.ensures, c.prevailing_of-prevails.ensures)
