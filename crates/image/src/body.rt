@@ -9,7 +9,6 @@ ghost use Rattle.image.specs.Load.{field_at, program_at};
 use crate::bytes::{field_at, mode_at, word_at};
 use machine::calls::mode_of;
 use machine::record::Program;
-use rules::registers::Mode;
 
 pub trait Body: Copy {
     // How many bytes a body has.
@@ -69,11 +68,7 @@ impl Body for Program {
 
     ghost SIZE = { 5 };
 
-    const NONE: Program = Program {
-        context: 0,
-        mask: 0,
-        mode: Mode::User,
-    };
+    const NONE: Program = Program::NONE;
 
     ghost NONE = { no_program };
 

@@ -7,7 +7,7 @@ use crate::body::read_bodies;
 use crate::bytes::shape_at;
 use crate::refusals::{check_load, program_place};
 use machine::record::{Answered, Machine, Program, Report};
-use rules::number_of;
+use rules::outcome_number;
 use rules::registers::Registers;
 
 // The machine that the bytes describe, of any bytes: the fields and the programs fill the machine's 256 and its eight places.
@@ -44,7 +44,7 @@ pub fn load(bytes: &[u8]) -> Answered
         Err(_) => Machine::zero(),
     };
     Answered {
-        number: number_of(outcome),
+        number: outcome_number(outcome),
         machine,
         report: Report::Nothing,
     }

@@ -1,6 +1,6 @@
 // What a load refuses (RULES 5.8), each condition worked out on any string of bytes.
 ghost use Rattle.std.specs.Prelude.{◌≡◌, ◌+◌, ◌*◌};
-ghost use Rattle.rules.specs.Refusals.{first, number_of};
+ghost use Rattle.rules.specs.Refusals.{first, outcome_number};
 ghost use Rattle.image.specs.Load.{every, length_tests, kind_tests, shape_entry_tests, shape_tests, body_tests, are_modes, modes_of, load_checks};
 
 use crate::bytes::{byte_at, entry_at, mode_at, shape_at};
@@ -84,7 +84,7 @@ fn modes_hold(bytes: &[u8]) -> bool
 // Why a load is refused, by the first condition that is met.
 #[tactic(auto, unfolding(crate::specs::Load::load_checks))]
 pub fn check_load(bytes: &[u8]) -> Result<(), Refusal>
-    ensures { number_of result ≡ first (load_checks bytes.now) }
+    ensures { outcome_number result ≡ first (load_checks bytes.now) }
 {
     if !length_holds(bytes) {
         return Err(Refusal::WrongLength);

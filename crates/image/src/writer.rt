@@ -2,7 +2,7 @@
 // offset on. Each of the writers puts its bytes where its caller has seen that there is room.
 ghost use Rattle.std.specs.Prelude.{◌≡◌, ◌+◌, ◌*◌, ◌≤◌, true, length};
 ghost use Rattle.std.proofs.lemmas.List.Edits.{sets};
-ghost use Rattle.rules.specs.Refusals.{first, number_of, given_or};
+ghost use Rattle.rules.specs.Refusals.{first, outcome_number, given_or};
 ghost use Rattle.machine.specs.Machine.{is_sound, no_program};
 ghost use Rattle.image.specs.Description.{entry, contents, shape, pad, bytes_of};
 ghost use Rattle.image.specs.Write.{entry_of, is_at_rest, write_checks, written_of, buffer_after};
@@ -95,7 +95,7 @@ fn shape_of(machine: &Machine) -> Shape
 // Why writing a machine into a buffer of so many bytes is refused, by the first condition that is met.
 #[tactic(auto, using(crate::proofs::Writes::image_length), unfolding(crate::specs::Write::write_checks))]
 fn check_write(machine: &Machine, room: usize) -> Result<(), Refusal>
-    ensures { number_of result ≡ first (write_checks machine.now room) }
+    ensures { outcome_number result ≡ first (write_checks machine.now room) }
 {
     if !machine.sound() {
         return Err(Refusal::Unsound);
@@ -112,7 +112,7 @@ fn check_write(machine: &Machine, room: usize) -> Result<(), Refusal>
 
 // The image that starts a machine, into a lent buffer; how many bytes it has. Where it is refused, no byte of the buffer changes.
 pub fn write(machine: Machine, buf: &mut [u8]) -> Result<usize, Refusal>
-    ensures number { number_of result ≡ (written_of machine (length buf.old)).number }
+    ensures number { outcome_number result ≡ (written_of machine (length buf.old)).number }
     ensures count { given_or 0 result ≡ (written_of machine (length buf.old)).count }
     ensures buf_after { buf.new ≡ buffer_after machine buf.old }
 {
