@@ -11,6 +11,7 @@ use rules::outcome_number;
 use rules::registers::Registers;
 
 // The machine that the bytes describe, of any bytes: the fields and the programs fill the machine's 256 and its eight places.
+#[tactic(auto, using(crate::proofs::Entries::pad_at, crate::proofs::Entries::length_entries), unfolding(crate::specs::Description::machine_of, crate::specs::Load::describe))]
 fn machine_of(bytes: &[u8]) -> Machine
     ensures { result ≡ machine_of (describe bytes.now) }
 {
@@ -35,6 +36,7 @@ fn machine_of(bytes: &[u8]) -> Machine
 }
 
 // The load of an image: its number, and the machine it describes where that is 0, the all-zero machine where not.
+#[tactic(auto, using(rules::proofs::Outcomes::refused), unfolding(crate::specs::Load::load_of))]
 pub fn load(bytes: &[u8]) -> Answered
     ensures { result ≡ load_of bytes.now }
 {

@@ -21,12 +21,12 @@ fn kinds_hold(bytes: &[u8]) -> bool
     let shape = entry_at(bytes, 0);
     let pages = entry_at(bytes, 1);
     let programs = entry_at(bytes, 2);
-    (shape.kind == 1)
-        & (shape.zero == 0)
-        & (pages.kind == 2)
-        & (pages.zero == 0)
-        & (programs.kind == 3)
-        & (programs.zero == 0)
+    shape.kind == 1
+        && shape.zero == 0
+        && pages.kind == 2
+        && pages.zero == 0
+        && programs.kind == 3
+        && programs.zero == 0
 }
 
 #[tactic(auto, unfolding(crate::specs::Load::shape_entry_tests))]
@@ -34,23 +34,19 @@ fn shape_entry_holds(bytes: &[u8]) -> bool
     ensures { result ≡ every (shape_entry_tests bytes.now) }
 {
     let shape = entry_at(bytes, 0);
-    (shape.offset == 18) & (shape.length == 4)
+    shape.offset == 18 && shape.length == 4
 }
 
-// Six comparisons, one a test of the definition: with `(1..=128).contains(&pages)` the proof did not close.
 #[tactic(auto, unfolding(crate::specs::Load::shape_tests))]
 fn shape_holds(bytes: &[u8]) -> bool
     ensures { result ≡ every (shape_tests bytes.now) }
 {
     let shape = shape_at(bytes);
-    (1 <= shape.pages)
-        & (shape.pages <= 128)
-        & (5 <= shape.exponent)
-        & (shape.exponent <= 12)
-        & (1 <= shape.programs)
-        & (shape.programs <= 8)
-        & (byte_at(bytes, 21) == 0)
-        & (memory_size(shape.pages as u16, shape.exponent) <= 65536)
+    (1..=128).contains(&shape.pages)
+        && (5..=12).contains(&shape.exponent)
+        && (1..=8).contains(&shape.programs)
+        && byte_at(bytes, 21) == 0
+        && memory_size(shape.pages as u16, shape.exponent) <= 65536
 }
 
 // Where a program starts, programs counted from 0; past the last program that is where the image ends.
@@ -67,11 +63,11 @@ fn bodies_hold(bytes: &[u8]) -> bool
     let shape = shape_at(bytes);
     let pages = entry_at(bytes, 1);
     let programs = entry_at(bytes, 2);
-    (pages.offset == 22)
-        & (pages.length == 4 * (shape.pages as u16))
-        & (programs.offset == 22 + 4 * (shape.pages as u16))
-        & (programs.length == 5 * (shape.programs as u16))
-        & (bytes.len() == program_place(shape.pages, shape.programs) as usize)
+    pages.offset == 22
+        && pages.length == 4 * shape.pages as u16
+        && programs.offset == program_place(shape.pages, 0)
+        && programs.length == 5 * shape.programs as u16
+        && bytes.len() == program_place(shape.pages, shape.programs) as usize
 }
 
 fn modes_hold(bytes: &[u8]) -> bool

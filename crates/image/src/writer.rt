@@ -32,7 +32,13 @@ fn write_contents(out: &mut [u8], counts: Shape)
 {
     put_entry(out, 0, 1, 18, 4);
     put_entry(out, 6, 2, 22, 4 * (counts.pages as u16));
-    put_entry(out, 12, 3, 22 + 4 * (counts.pages as u16), 5 * (counts.programs as u16));
+    put_entry(
+        out,
+        12,
+        3,
+        22 + 4 * (counts.pages as u16),
+        5 * (counts.programs as u16),
+    );
 }
 
 // The body of kind 1, the shape.
@@ -75,7 +81,7 @@ fn entry_of(registers: Registers) -> Program
 fn is_at_rest(machine: &Machine) -> bool
     ensures { result ≡ is_at_rest machine.now }
 {
-    (machine.current == 0) & (machine.depth == 0) & !machine.registers.pending
+    machine.current == 0 && machine.depth == 0 && !machine.registers.pending
 }
 
 // The shape of a sound machine, whose counts are bytes.
@@ -111,6 +117,7 @@ fn check_write(machine: &Machine, room: usize) -> Result<(), Refusal>
 }
 
 // The image that starts a machine, into a lent buffer; how many bytes it has. Where it is refused, no byte of the buffer changes.
+#[tactic(auto, using(rules::proofs::Outcomes::refused, crate::proofs::Writes::ready, crate::proofs::Writes::image_parts, crate::proofs::Writes::done_answer, crate::proofs::Writes::done_buffer, crate::proofs::Writes::refused_answer, crate::proofs::Writes::refused_buffer))]
 pub fn write(machine: Machine, buf: &mut [u8]) -> Result<usize, Refusal>
     ensures number { outcome_number result ≡ (written_of machine (length buf.old)).number }
     ensures count { given_or 0 result ≡ (written_of machine (length buf.old)).count }
