@@ -53,7 +53,7 @@ fn shape_holds(bytes: &[u8]) -> bool
 pub fn program_place(pages: u8, program: u8) -> u16
     ensures { result ≡ 22 + 4 * pages + 5 * program }
 {
-    22 + 4 * (pages as u16) + 5 * (program as u16)
+    22 + 4 * pages as u16 + 5 * program as u16
 }
 
 #[tactic(auto, unfolding(crate::specs::Load::body_tests))]

@@ -14,7 +14,7 @@ use machine::record::{Machine, Program};
 use rules::Refusal;
 use rules::registers::Registers;
 
-// An entry of the table of contents at a place.
+// An entry of the table of contents at a place. Three numbers, and not an `Entry`: a call is one line, a struct of four fields would be six.
 fn put_entry(out: &mut [u8], at: usize, kind: u8, offset: u16, size: u16)
     requires { at + 6 ≤ length out.old }
     ensures { out.new ≡ sets out.old at (entry kind offset size) }
@@ -31,13 +31,13 @@ fn write_contents(out: &mut [u8], counts: Shape)
     ensures { out.new ≡ sets out.old 0 (contents counts.pages counts.programs) }
 {
     put_entry(out, 0, 1, 18, 4);
-    put_entry(out, 6, 2, 22, 4 * (counts.pages as u16));
+    put_entry(out, 6, 2, 22, 4 * counts.pages as u16);
     put_entry(
         out,
         12,
         3,
-        22 + 4 * (counts.pages as u16),
-        5 * (counts.programs as u16),
+        program_place(counts.pages, 0),
+        5 * counts.programs as u16,
     );
 }
 
