@@ -30,15 +30,10 @@ fn write_contents(out: &mut [u8], counts: Shape)
     requires { 18 ≤ length out.old }
     ensures { out.new ≡ sets out.old 0 (contents counts.pages counts.programs) }
 {
+    let first = program_place(counts.pages, 0);
     put_entry(out, 0, 1, 18, 4);
     put_entry(out, 6, 2, 22, 4 * counts.pages as u16);
-    put_entry(
-        out,
-        12,
-        3,
-        program_place(counts.pages, 0),
-        5 * counts.programs as u16,
-    );
+    put_entry(out, 12, 3, first, 5 * counts.programs as u16);
 }
 
 // The body of kind 1, the shape.
