@@ -2,18 +2,16 @@
 -- and an image that was loaded is written again byte for byte.
 use Prim.Native.Nat.{ℕ, zero, suc, ◌+◌, ◌*◌, ◌≤◌, ◌<◌}
 use mathlib.Core.Path.{◌≡◌, refl, ap, sym, ◌∙◌, subst}
-use mathlib.Core.Bool.{Bool, true, false}
+use mathlib.Core.Bool.{true, false}
 use mathlib.Core.List.{List, [], ◌∷◌, ◌++◌}
 use native.Mathlib.Omega.{arith}
-use lib.ListN.{length, get_or, take, drop, replicate}
+use lib.ListN.{length, get_or, take, drop}
 use lib.Seq.{take_at, get_or-drop}
-use Rattle.rules.specs.declared.registers.Registers.{Registers}
 use Rattle.machine.specs.Machine.{is_sound, no_program, with_last}
 use Rattle.machine.specs.Calls.{silent}
 use Rattle.machine.specs.declared.record.Machine.{Machine}
 use Rattle.machine.specs.declared.record.Program.{Program}
 use Rattle.machine.proofs.Sound.{sound_facts}
-use Rattle.machine.proofs.Written.{whole}
 use Rattle.image.specs.Bytes.{Bytes, word_at}
 use Rattle.image.specs.Description.{Description, Shaped, pad, live_of, bytes_of, machine_of}
 use Rattle.image.specs.Load.{describe, load_of, field_at, page_count, program_at, program_count}
@@ -103,24 +101,12 @@ module _ (m : Machine) (sound : is_sound m ≡ true) where
       → program_at (image_for m) (22 + 4 * m.pages + 5 * i) ≡ get_or m.table i no_program
   program_written i h k = program_read i k ∙ later (entry_of m.registers) m.table i h
 
--- the flag clear, a program's entry made of the live registers gives them back
-live_again : (r : Registers) → r.pending ≡ false → live_of (entry_of r) ≡ r
-live_again r clear = rw clear
-
--- machines with equal registers and equal program counts, all else the same, are equal
-same_parts : (pages exponent : ℕ) (fields : List ℕ) (saved : List Bool) (table : List Program)
-    → {live live' : Registers} {programs programs' : ℕ} → live ≡ live' → programs ≡ programs'
-    → whole pages exponent fields live 0 saved programs 0 table ≡ whole pages exponent fields live' 0 saved programs' 0 table
-same_parts pages exponent fields saved table e f = rw (e, f)
-
 started : (m : Machine) → Ready m → machine_of (description_of m) ≡ restarted m
 unfolding machine_of description_of restarted
 started m can =
     let all = entry_of m.registers ∷ drop 1 m.table in
     let least = (sound_facts m can.sound).programs_least in
-    same_parts m.pages m.exponent (pad 256 0 (counted_fields m)) (replicate 8 false) (pad 8 no_program (counted_programs m))
-    (ap live_of (pad_at no_program m.programs all 0 least) ∙ live_again m.registers can.flag_clear)
-    (length_pad no_program m.programs all)
+    rw (pad_at no_program m.programs all 0 least, can.flag_clear, length_pad no_program m.programs all)
 
 loads_again : (m : Machine) (buffer : List ℕ) → (written_of m (length buffer)).number ≡ 0
     → load_of (take (written_of m (length buffer)).count (buffer_after m buffer)) ≡ silent 0 (restarted m)
