@@ -83,3 +83,6 @@ pad_past z (suc n) [] zero h = refl
 pad_past z (suc n) [] (suc i) h = pad_past z n [] i (omega arith)
 pad_past z (suc n) (x ∷ l) zero h = absurd (omega arith)
 pad_past z (suc n) (x ∷ l) (suc i) h = pad_past z n l i (omega arith)
+
+-- what the loop of `image::body::read_bodies` stands on
+pub ruleset placing = (pad_none, pad_next, pad_least)

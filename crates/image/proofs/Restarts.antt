@@ -32,14 +32,14 @@ use Rattle.machine.specs.declared.record.Violation.{Violation}
 pad_back : {A : Type 0} (z : A) (k : ℕ) (l : List A) → length l ≤ k → pad (length l) z (pad k z l) ≡ l
 pad_back z k [] h = refl
 pad_back z zero (x ∷ l) h = absurd (omega arith)
-pad_back z (suc k) (x ∷ l) h = ap (λ (t : List _). x ∷ t) (pad_back z k l (omega arith))
+pad_back z (suc k) (x ∷ l) h = grind (arith, pad_back z k l)
 
 -- ---- from a machine to its image and back
 
 -- past the first place, a stored entry stands where it stood
 later : (x : Program) (l : List Program) (i : ℕ) → 1 ≤ i → get_or (x ∷ drop 1 l) i no_program ≡ get_or l i no_program
 later x l zero h = absurd (omega arith)
-later x l (suc i) h = let e : 1 + i ≡ suc i = omega arith in rw (get_or-drop 1 l i no_program, e)
+later x l (suc i) h = grind (arith, get_or-drop 1 l i no_program)
 
 shaped_machine : (m : Machine) → is_sound m ≡ true → Shaped (description_of m)
 unfolding description_of
@@ -177,7 +177,7 @@ written_restarts m buffer accepted = (loads_again m buffer accepted, restarts m 
 programs_back : (l : List Program) → 1 ≤ length l → length l ≤ 8
     → pad (length l) no_program (entry_of (live_of (get_or l 0 no_program)) ∷ drop 1 (pad 8 no_program l)) ≡ l
 programs_back [] h k = absurd (omega arith)
-programs_back (x ∷ l) h k = ap (λ (t : List Program). x ∷ t) (pad_back no_program 7 l (omega arith))
+programs_back (x ∷ l) h k = grind (arith, pad_back no_program 7 l)
 
 -- the description of the machine of a description is that description
 redescribed : (d : Description) → Shaped d → description_of (machine_of d) ≡ d

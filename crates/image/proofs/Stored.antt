@@ -75,3 +75,6 @@ module _ {A : Type 0} (size : ℕ) (write : A → List ℕ) (z : A) (n : ℕ) (l
 
   pub storing_ends : (out : List ℕ) (i : ℕ) → Storing out i → n ≤ i → out ≡ sets start 0 (bodies write (pad n z l))
   storing_ends out i left h = rw (drop_of_length-le (pad n z l) {i = i} (rw (length_pad z n l) h)) at left.rest
+
+-- what the loop of `image::body::write_bodies` stands on
+pub ruleset storing = (storing_starts, storing_next, storing_ends)

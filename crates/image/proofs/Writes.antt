@@ -187,3 +187,6 @@ buffer_kept m buffer =
         let accepted = eqb-true (first (write_checks m (length buffer))) 0 e in
         rw (image_written m buffer accepted) (omega (arith, image_length m, (ready m (length buffer) accepted).1))
     split false e = rw (nothing_written m buffer e) (omega arith)
+
+-- what `image::writer::write` stands on, beside the numbers of the refusals
+pub ruleset writing = (ready, image_parts, done_answer, done_buffer, refused_answer, refused_buffer)

@@ -94,7 +94,7 @@ impl Body for Program {
 }
 
 // So many bodies that stand one after another, the first at a place, in the first places of an array; past them there is none.
-#[tactic(auto, using(crate::proofs::Entries::pad_none, crate::proofs::Entries::pad_next, crate::proofs::Entries::pad_least))]
+#[tactic(auto, using(crate::proofs::Entries::placing))]
 pub fn read_bodies<T: Body, const N: usize>(bytes: &[u8], at: u16, count: usize) -> [T; N]
     requires { at + T.SIZE * N < 2 ^ 16 }
     ensures { result ≡ pad N T.NONE (entries T.SIZE (T.read_of bytes.now) at count) }
@@ -107,7 +107,7 @@ pub fn read_bodies<T: Body, const N: usize>(bytes: &[u8], at: u16, count: usize)
 }
 
 // So many bodies written one after another; where fewer are given, none is written for each that is missing.
-#[tactic(auto, using(crate::proofs::Stored::storing_starts, crate::proofs::Stored::storing_next, crate::proofs::Stored::storing_ends))]
+#[tactic(auto, using(crate::proofs::Stored::storing))]
 pub fn write_bodies<T: Body>(out: &mut [u8], items: &[T], count: usize)
     requires { T.SIZE * count ≤ length out.old }
     ensures { out.new ≡ sets out.old 0 (bodies T.bytes_of (pad count T.NONE items.now)) }

@@ -112,7 +112,7 @@ fn check_write(machine: &Machine, room: usize) -> Result<(), Refusal>
 }
 
 // The image that starts a machine, into a lent buffer; how many bytes it has. Where it is refused, no byte of the buffer changes.
-#[tactic(auto, using(rules::proofs::Outcomes::refused, crate::proofs::Writes::ready, crate::proofs::Writes::image_parts, crate::proofs::Writes::done_answer, crate::proofs::Writes::done_buffer, crate::proofs::Writes::refused_answer, crate::proofs::Writes::refused_buffer))]
+#[tactic(auto, using(rules::proofs::Outcomes::refused, crate::proofs::Writes::writing))]
 pub fn write(machine: Machine, buf: &mut [u8]) -> Result<usize, Refusal>
     ensures number { outcome_number result ≡ (written_of machine (length buf.old)).number }
     ensures count { given_or 0 result ≡ (written_of machine (length buf.old)).count }
