@@ -58,7 +58,9 @@ impl Body for u16 {
     }
 
     fn put(self, out: &mut [u8], at: usize) {
-        out[at..at + 2].copy_from_slice(&self.to_be_bytes());
+        let [high, low] = self.to_be_bytes();
+        out[at] = high;
+        out[at + 1] = low;
     }
 }
 

@@ -11,7 +11,6 @@ use rules::outcome_number;
 use rules::registers::Registers;
 
 // The machine that the bytes describe, of any bytes: the fields and the programs fill the machine's 256 and its eight places.
-#[tactic(auto, using(crate::proofs::Entries::pad_at, crate::proofs::Entries::length_entries), unfolding(crate::specs::Description::machine_of, crate::specs::Load::describe))]
 fn machine_of(bytes: &[u8]) -> Machine
     ensures { result ≡ machine_of (describe bytes.now) }
 {
