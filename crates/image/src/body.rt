@@ -6,7 +6,7 @@ ghost use Rattle.image.specs.Bytes.{word, entries, bodies};
 ghost use Rattle.image.specs.Description.{program_bytes, pad};
 ghost use Rattle.image.specs.Load.{field_at, program_at};
 
-use crate::bytes::{field_at, mode_at, word_at};
+use crate::bytes::{byte_at, word_at};
 use machine::calls::mode_of;
 use machine::record::Program;
 
@@ -26,7 +26,8 @@ pub trait Body: Copy {
 
     ghost bytes_of: { Self → List ℕ };
 
-    fn read(bytes: &[u8], at: u16) -> Self
+    fn read(bytes: &[u8], at: u32) -> Self
+        requires { at + SIZE < 2 ^ 32 }
         ensures { result ≡ read_of bytes.now at };
 
     // Written at a place.
@@ -53,8 +54,8 @@ impl Body for u16 {
 
     ghost sized = { λ number. refl };
 
-    fn read(bytes: &[u8], at: u16) -> u16 {
-        field_at(bytes, at)
+    fn read(bytes: &[u8], at: u32) -> u16 {
+        word_at(bytes, at)
     }
 
     fn put(self, out: &mut [u8], at: usize) {
@@ -80,11 +81,11 @@ impl Body for Program {
 
     ghost sized = { λ program. refl };
 
-    fn read(bytes: &[u8], at: u16) -> Program {
+    fn read(bytes: &[u8], at: u32) -> Program {
         Program {
-            context: word_at(bytes, at as u32),
-            mask: word_at(bytes, 2 + at as u32),
-            mode: mode_of(mode_at(bytes, at) as u16),
+            context: word_at(bytes, at),
+            mask: word_at(bytes, 2 + at),
+            mode: mode_of(byte_at(bytes, 4 + at as usize) as u16),
         }
     }
 
@@ -97,13 +98,13 @@ impl Body for Program {
 
 // So many bodies that stand one after another, the first at a place, in the first places of an array; past them there is none.
 #[tactic(auto, using(crate::proofs::Entries::placing))]
-pub fn read_bodies<T: Body, const N: usize>(bytes: &[u8], at: u16, count: usize) -> [T; N]
-    requires { at + T.SIZE * N < 2 ^ 16 }
+pub fn read_bodies<T: Body, const N: usize>(bytes: &[u8], at: u32, count: usize) -> [T; N]
+    requires { at + T.SIZE * N < 2 ^ 32 }
     ensures { result ≡ pad N T.NONE (entries T.SIZE (T.read_of bytes.now) at count) }
 {
     let mut places = [T::NONE; N];
     for i in 0..count.min(N) {
-        places[i] = T::read(bytes, at + (T::SIZE * i) as u16);
+        places[i] = T::read(bytes, at + (T::SIZE * i) as u32);
     }
     places
 }

@@ -15,7 +15,7 @@ fn machine_of(bytes: &[u8]) -> Machine
     ensures { result ≡ machine_of (describe bytes.now) }
 {
     let shape = shape_at(bytes);
-    let first = program_place(shape.pages, 0);
+    let first = program_place(shape.pages, 0) as u32;
     let table: [Program; 8] = read_bodies(bytes, first, shape.programs as usize);
     let live = table[0];
     Machine {
