@@ -10,6 +10,7 @@ use crate::bytes::{byte_at, word_at};
 use machine::calls::mode_of;
 use machine::record::Program;
 
+// What can be read at a place and written at one. Each `impl` names what the definitions say of that, and shows that what it writes has its size.
 pub trait Body: Copy {
     // How many bytes a body has.
     const SIZE: usize;
@@ -96,7 +97,7 @@ impl Body for Program {
     }
 }
 
-// So many bodies that stand one after another, the first at a place, in the first places of an array; past them there is none.
+// So many bodies that stand one after another, the first at a place, in the first places of an array; `NONE` in the others.
 #[tactic(auto, using(crate::proofs::Entries::placing))]
 pub fn read_bodies<T: Body, const N: usize>(bytes: &[u8], at: u32, count: usize) -> [T; N]
     requires { at + T.SIZE * N < 2 ^ 32 }
@@ -109,7 +110,7 @@ pub fn read_bodies<T: Body, const N: usize>(bytes: &[u8], at: u32, count: usize)
     places
 }
 
-// So many bodies written one after another; where fewer are given, none is written for each that is missing.
+// So many bodies written one after another; where fewer are given, `NONE` is written for each that is missing.
 #[tactic(auto, using(crate::proofs::Stored::storing))]
 pub fn write_bodies<T: Body>(out: &mut [u8], items: &[T], count: usize)
     requires { T.SIZE * count ≤ length out.old }
