@@ -1,10 +1,10 @@
 -- Bodies that stand one after another, read into a list and into the places of an array.
-use Prim.Native.Nat.{ℕ, zero, suc, ◌+◌, ◌*◌, ◌-◌, ◌≤◌, ◌<◌}
+use Prim.Native.Nat.{ℕ, zero, suc, ◌+◌, ◌*◌, ◌-◌, ◌≤◌, ◌<◌, min}
 use mathlib.Core.Path.{◌≡◌, refl, ap}
 use mathlib.Core.List.{List, [], ◌∷◌}
 use native.Mathlib.Omega.{arith}
 use native.Mathlib.Nat.{mul-suc}
-use lib.ListN.{length, get_or, set}
+use lib.ListN.{length, get_or, set, replicate}
 use Rattle.image.specs.Bytes.{entries}
 use Rattle.image.specs.Description.{pad}
 
@@ -38,13 +38,14 @@ module _ {A : Type 0} (size : ℕ) (read : ℕ → A) where
       rw e (ap (λ (l : List A). read at ∷ l) (pad_next z n (size + at) i (omega arith)))
 
   -- bodies past the last place are not seen
-  pub pad_enough : (z : A) (n at i m : ℕ) → n ≤ i → n ≤ m
+  pub pad_least : (z : A) (n at i m : ℕ) → i ≡ min m n
       → pad n z (entries size read at i) ≡ pad n z (entries size read at m)
-  pad_enough z zero at i m h k = refl
-  pad_enough z (suc n) at zero m h k = absurd (omega arith)
-  pad_enough z (suc n) at (suc i) zero h k = absurd (omega arith)
-  pad_enough z (suc n) at (suc i) (suc m) h k =
-      ap (λ (l : List A). read at ∷ l) (pad_enough z n (size + at) i m (omega arith) (omega arith))
+  pad_least z zero at i m least = refl
+  pad_least z (suc n) at zero zero least = refl
+  pad_least z (suc n) at zero (suc m) least = absurd (omega arith)
+  pad_least z (suc n) at (suc i) zero least = absurd (omega arith)
+  pad_least z (suc n) at (suc i) (suc m) least =
+      ap (λ (l : List A). read at ∷ l) (pad_least z n (size + at) i m (omega arith))
 
   -- what is left from body i on
   pub left_none : (n i at : ℕ) → n ≤ i → entries size read at (n - i) ≡ []
@@ -56,6 +57,11 @@ module _ {A : Type 0} (size : ℕ) (read : ℕ → A) where
       let e : n - i ≡ suc (n - (i + 1)) = omega arith in
       let f : at + size * (i + 1) ≡ size + (at + size * i) = omega (arith, mul-suc size i) in
       rw (e, f)
+
+-- no list in n places
+pub pad_none : {A : Type 0} (z : A) (n : ℕ) → replicate n z ≡ pad n z []
+pad_none z zero = refl
+pad_none z (suc n) = rw (pad_none z n)
 
 -- a list in n places has n places
 pub length_pad : {A : Type 0} (z : A) (n : ℕ) (l : List A) → length (pad n z l) ≡ n
@@ -77,3 +83,6 @@ pad_past z (suc n) [] zero h = refl
 pad_past z (suc n) [] (suc i) h = pad_past z n [] i (omega arith)
 pad_past z (suc n) (x ∷ l) zero h = absurd (omega arith)
 pad_past z (suc n) (x ∷ l) (suc i) h = pad_past z n l i (omega arith)
+
+-- what the loop of `image::body::read_bodies` stands on
+pub ruleset placing = (pad_none, pad_next, pad_least)

@@ -1,13 +1,12 @@
 -- What an image that nothing refuses says of its bytes, as equations and bounds, and back.
 use Prim.Native.Nat.{ℕ, ◌+◌, ◌*◌, ◌^◌, ◌≤◌}
-use mathlib.Core.Path.{◌≡◌, refl}
-use mathlib.Core.Bool.{true, false}
+use mathlib.Core.Path.{◌≡◌}
+use mathlib.Core.Bool.{true}
 use mathlib.Core.List.{List}
-use borrow.Author.Tests.{leb-true, eqb-true, le-leb, eq-eqb, not-false}
+use borrow.Author.Tests.{leb-true, eqb-true, le-leb, eq-eqb}
 use native.Mathlib.Omega.{arith}
 use lib.ListN.{length}
 use Rattle.rules.specs.Refusals.{first}
-use Rattle.machine.proofs.Answers.{met_at, unmet}
 use Rattle.machine.proofs.Sound.{each}
 use Rattle.image.specs.Load.{kind_at, zero_at, offset_at, length_at, page_count, page_exponent, program_count, shape_zero, modes_of, every, are_modes, length_tests, kind_tests, shape_entry_tests, shape_tests, body_tests, load_checks}
 
@@ -42,14 +41,7 @@ module _ (s : List ℕ) where
       → (every (kind_tests s) ≡ true) × (every (shape_entry_tests s) ≡ true) × (every (shape_tests s) ≡ true)
       × (every (body_tests s) ≡ true) × (are_modes (modes_of s) ≡ true)
   unfolding load_checks
-  none h =
-      let met : (k : ℕ) → met_at k (load_checks s) ≡ false = λ k. unmet k (load_checks s) refl h in (
-        not-false _ (met 1),
-        not-false _ (met 2),
-        not-false _ (met 3),
-        not-false _ (met 4),
-        not-false _ (met 5),
-      )
+  none h = grind arith
 
   pub passed : first (load_checks s) ≡ 0 → Passed s
   unfolding kind_tests shape_entry_tests shape_tests body_tests

@@ -29,10 +29,6 @@ mode_read : (mode : Mode) → mode_of (mode_byte mode) ≡ mode
 mode_read User = refl
 mode_read Privileged = refl
 
-same_program : {context context' mask mask' : ℕ} {mode : Mode} → context ≡ context' → mask ≡ mask'
-    → ◌≡◌ {A = Program} (record { context = context; mask = mask; mode = mode }) (record { context = context'; mask = mask'; mode = mode })
-same_program p q = rw (p, q)
-
 program_read : (p t : List ℕ) (x : Program) → program_at (p ++ (program_bytes x ++ t)) (length p) ≡ x
 program_read p t x =
     let u = program_bytes x ++ t in
@@ -45,7 +41,7 @@ program_read p t x =
       past p u 4 (4 + n) (omega arith),
       mode_read x.mode,
     )
-    (same_program (omega arith) (omega arith))
+    (grind arith)
 
 -- bodies of one size
 module _ {A : Type 0} (size : ℕ) (write : A → List ℕ) (sized : (x : A) → length (write x) ≡ size) where
@@ -73,11 +69,7 @@ mode_byte_read p t x = past p (program_bytes x ++ t) 4 (4 + length p) (omega ari
 
 are_modes_lem : (l : List Program) → are_modes (map (λ (p : Program). mode_byte p.mode) l) ≡ true
 are_modes_lem [] = refl
-are_modes_lem (p ∷ l) = one p.mode (map (λ (p : Program). mode_byte p.mode) l) (are_modes_lem l)
-  where
-    one : (mode : Mode) (rest : List ℕ) → are_modes rest ≡ true → are_modes (mode_byte mode ∷ rest) ≡ true
-    one User rest h = h
-    one Privileged rest h = h
+are_modes_lem (p ∷ l) = grind (arith, are_modes_lem l)
 
 -- the table of contents and the shape, 22 bytes
 abbrev front : Description → List ℕ

@@ -2,18 +2,16 @@
 -- and an image that was loaded is written again byte for byte.
 use Prim.Native.Nat.{ℕ, zero, suc, ◌+◌, ◌*◌, ◌≤◌, ◌<◌}
 use mathlib.Core.Path.{◌≡◌, refl, ap, sym, ◌∙◌, subst}
-use mathlib.Core.Bool.{Bool, true, false}
+use mathlib.Core.Bool.{true, false}
 use mathlib.Core.List.{List, [], ◌∷◌, ◌++◌}
 use native.Mathlib.Omega.{arith}
-use lib.ListN.{length, get_or, take, drop, replicate}
+use lib.ListN.{length, get_or, take, drop}
 use lib.Seq.{take_at, get_or-drop}
-use Rattle.rules.specs.declared.registers.Registers.{Registers}
 use Rattle.machine.specs.Machine.{is_sound, no_program, with_last}
 use Rattle.machine.specs.Calls.{silent}
 use Rattle.machine.specs.declared.record.Machine.{Machine}
 use Rattle.machine.specs.declared.record.Program.{Program}
 use Rattle.machine.proofs.Sound.{sound_facts}
-use Rattle.machine.proofs.Written.{whole}
 use Rattle.image.specs.Bytes.{Bytes, word_at}
 use Rattle.image.specs.Description.{Description, Shaped, pad, live_of, bytes_of, machine_of}
 use Rattle.image.specs.Load.{describe, load_of, field_at, page_count, program_at, program_count}
@@ -34,14 +32,14 @@ use Rattle.machine.specs.declared.record.Violation.{Violation}
 pad_back : {A : Type 0} (z : A) (k : ℕ) (l : List A) → length l ≤ k → pad (length l) z (pad k z l) ≡ l
 pad_back z k [] h = refl
 pad_back z zero (x ∷ l) h = absurd (omega arith)
-pad_back z (suc k) (x ∷ l) h = ap (λ (t : List _). x ∷ t) (pad_back z k l (omega arith))
+pad_back z (suc k) (x ∷ l) h = grind (arith, pad_back z k l)
 
 -- ---- from a machine to its image and back
 
 -- past the first place, a stored entry stands where it stood
 later : (x : Program) (l : List Program) (i : ℕ) → 1 ≤ i → get_or (x ∷ drop 1 l) i no_program ≡ get_or l i no_program
 later x l zero h = absurd (omega arith)
-later x l (suc i) h = let e : 1 + i ≡ suc i = omega arith in rw (get_or-drop 1 l i no_program, e)
+later x l (suc i) h = grind (arith, get_or-drop 1 l i no_program)
 
 shaped_machine : (m : Machine) → is_sound m ≡ true → Shaped (description_of m)
 unfolding description_of
@@ -103,24 +101,12 @@ module _ (m : Machine) (sound : is_sound m ≡ true) where
       → program_at (image_for m) (22 + 4 * m.pages + 5 * i) ≡ get_or m.table i no_program
   program_written i h k = program_read i k ∙ later (entry_of m.registers) m.table i h
 
--- the flag clear, a program's entry made of the live registers gives them back
-live_again : (r : Registers) → r.pending ≡ false → live_of (entry_of r) ≡ r
-live_again r clear = rw clear
-
--- machines with equal registers and equal program counts, all else the same, are equal
-same_parts : (pages exponent : ℕ) (fields : List ℕ) (saved : List Bool) (table : List Program)
-    → {live live' : Registers} {programs programs' : ℕ} → live ≡ live' → programs ≡ programs'
-    → whole pages exponent fields live 0 saved programs 0 table ≡ whole pages exponent fields live' 0 saved programs' 0 table
-same_parts pages exponent fields saved table e f = rw (e, f)
-
 started : (m : Machine) → Ready m → machine_of (description_of m) ≡ restarted m
 unfolding machine_of description_of restarted
 started m can =
     let all = entry_of m.registers ∷ drop 1 m.table in
     let least = (sound_facts m can.sound).programs_least in
-    same_parts m.pages m.exponent (pad 256 0 (counted_fields m)) (replicate 8 false) (pad 8 no_program (counted_programs m))
-    (ap live_of (pad_at no_program m.programs all 0 least) ∙ live_again m.registers can.flag_clear)
-    (length_pad no_program m.programs all)
+    rw (pad_at no_program m.programs all 0 least, can.flag_clear, length_pad no_program m.programs all)
 
 loads_again : (m : Machine) (buffer : List ℕ) → (written_of m (length buffer)).number ≡ 0
     → load_of (take (written_of m (length buffer)).count (buffer_after m buffer)) ≡ silent 0 (restarted m)
@@ -191,7 +177,7 @@ written_restarts m buffer accepted = (loads_again m buffer accepted, restarts m 
 programs_back : (l : List Program) → 1 ≤ length l → length l ≤ 8
     → pad (length l) no_program (entry_of (live_of (get_or l 0 no_program)) ∷ drop 1 (pad 8 no_program l)) ≡ l
 programs_back [] h k = absurd (omega arith)
-programs_back (x ∷ l) h k = ap (λ (t : List Program). x ∷ t) (pad_back no_program 7 l (omega arith))
+programs_back (x ∷ l) h k = grind (arith, pad_back no_program 7 l)
 
 -- the description of the machine of a description is that description
 redescribed : (d : Description) → Shaped d → description_of (machine_of d) ≡ d

@@ -6,7 +6,6 @@ use mathlib.Core.Bool.{true}
 use mathlib.Core.List.{List, [], ◌∷◌, ◌++◌, append_assoc, append-nil}
 use native.Mathlib.Omega.{arith}
 use native.Mathlib.Nat.{mul-suc, mul-zero, add-zero}
-use borrow.Author.Tests.{leb-true}
 use lib.Dec.{leb}
 use lib.ListN.{length, drop, drop_of_length-le}
 use lib.Seq.{drop-cons}
@@ -39,16 +38,13 @@ module _ {A : Type 0} (size : ℕ) (read : ℕ → A) (write : A → List ℕ) (
 byte_drop : (s : List ℕ) (at next : ℕ) → next ≡ suc at → at < length s → byte_at s at ∷ drop next s ≡ drop at s
 byte_drop s at next e h = rw (e, drop-cons s at 0)
 
-two : {a b c d : ℕ} → a ≡ c → b ≡ d → ◌≡◌ {A = List ℕ} (a ∷ b ∷ []) (c ∷ d ∷ [])
-two p q = rw (p, q)
-
 module _ (s : List ℕ) (bytes : Bytes s) where
   -- a word that was read, written: the two bytes there
   word_stands : (at : ℕ) → word (word_at s at) ≡ byte_at s at ∷ byte_at s (1 + at) ∷ []
   word_stands at =
       let high = bytes at in
       let low = bytes (1 + at) in
-      two (omega arith) (omega arith)
+      grind arith
 
   -- the same with what follows them
   word_drop : (at n : ℕ) → n ≡ 2 + at → n ≤ length s → word (word_at s at) ++ drop n s ≡ drop at s
@@ -62,9 +58,7 @@ module _ (s : List ℕ) (bytes : Bytes s) where
 
   -- a mode byte of 0 or 1
   mode_stands : (b : ℕ) → b ≤ 1 → mode_byte (mode_of b) ≡ b
-  mode_stands zero h = refl
-  mode_stands (suc zero) h = refl
-  mode_stands (suc (suc b)) h = absurd (omega arith)
+  mode_stands b h = grind arith
 
   program_stands : (at : ℕ) → 5 + at ≤ length s → mode_at s at ≤ 1 → Stands 5 (program_at s) program_bytes s at
   program_stands at h m =
@@ -92,7 +86,7 @@ mode_within : (read : ℕ → ℕ) (at n : ℕ) → are_modes (entries 5 read at
 mode_within read at zero h i k = absurd (omega arith)
 mode_within read at (suc n) h zero k =
     let start : at + 5 * 0 ≡ at = omega arith in
-    rw start (leb-true (read at) 1 (and_both (leb (read at) 1) (are_modes (entries 5 read (5 + at) n)) h).0)
+    grind arith
 mode_within read at (suc n) h (suc i) k =
     let next : at + 5 * suc i ≡ 5 + at + 5 * i = omega arith in
     rw next (mode_within read (5 + at) n (and_both (leb (read at) 1) (are_modes (entries 5 read (5 + at) n)) h).1 i (omega arith))

@@ -4,13 +4,11 @@ use mathlib.Core.Path.{◌≡◌, ap, sym, ◌∙◌}
 use mathlib.Core.List.{List, [], ◌∷◌, ◌++◌}
 use native.Mathlib.Omega.{arith}
 use lib.ListN.{length, get_or}
-use Rattle.rules.specs.declared.registers.Mode.{Mode}
-use Rattle.rules.specs.declared.registers.Mode.TheVariants.{User, Privileged}
 use Rattle.machine.specs.Machine.{no_program}
 use Rattle.machine.specs.Calls.{silent}
 use Rattle.machine.specs.declared.record.Program.{Program}
 use Rattle.image.specs.Bytes.{Bytes, word, bodies}
-use Rattle.image.specs.Description.{Description, Shaped, Legal, entry, shape, mode_byte, program_bytes, bytes_of, machine_of}
+use Rattle.image.specs.Description.{Description, Shaped, Legal, entry, shape, program_bytes, bytes_of, machine_of}
 use Rattle.image.specs.Load.{describe, load_of}
 use Rattle.image.proofs.Passed.{passed, passes}
 use Rattle.image.proofs.Reread.{describe_bytes, bytes_pass}
@@ -26,17 +24,14 @@ data AllBytes : List ℕ → Type 0 where
   none : AllBytes []
   more : {b : ℕ} {s : List ℕ} → b < 256 → AllBytes s → AllBytes (b ∷ s)
 
-next : {b : ℕ} {s : List ℕ} → b < 256 → AllBytes s → AllBytes (b ∷ s)
-next h rest = more h rest
-
 pointwise : {s : List ℕ} → AllBytes s → Bytes s
 pointwise none at = omega arith
 pointwise (more h rest) zero = h
 pointwise (more h rest) (suc at) = pointwise rest at
 
 join : {s t : List ℕ} → AllBytes s → AllBytes t → AllBytes (s ++ t)
-join none next = next
-join (more h rest) next = more h (join rest next)
+join none rest = rest
+join (more h some) rest = more h (join some rest)
 
 each_body : {A : Type 0} (write : A → List ℕ) (z : A) (l : List A) → ((i : ℕ) → AllBytes (write (get_or l i z)))
     → AllBytes (bodies write l)
@@ -44,17 +39,13 @@ each_body write z [] h = none
 each_body write z (x ∷ l) h = join (h 0) (each_body write z l (λ i. h (suc i)))
 
 word_bytes : (w : ℕ) → w < 65536 → AllBytes (word w)
-word_bytes w h = next (omega arith) (next (omega arith) none)
+word_bytes w h = more (omega arith) (more (omega arith) none)
 
 entry_bytes : (kind offset size : ℕ) → kind < 256 → offset < 65536 → size < 65536 → AllBytes (entry kind offset size)
-entry_bytes kind offset size k o n = next k (next (omega arith) (join (word_bytes offset o) (word_bytes size n)))
+entry_bytes kind offset size k o n = more k (more (omega arith) (join (word_bytes offset o) (word_bytes size n)))
 
 program_bytes_lem : (p : Program) → p.context < 65536 → p.mask < 65536 → AllBytes (program_bytes p)
-program_bytes_lem p c m = join (word_bytes p.context c) (join (word_bytes p.mask m) (next (mode_byte_lem p.mode) none))
-  where
-    mode_byte_lem : (mode : Mode) → mode_byte mode < 256
-    mode_byte_lem User = omega arith
-    mode_byte_lem Privileged = omega arith
+program_bytes_lem p c m = join (word_bytes p.context c) (join (word_bytes p.mask m) (more (grind arith) none))
 
 -- what a legal description is written in are bytes
 pub legal_bytes : (d : Description) → Legal d → Bytes (bytes_of d)
@@ -66,7 +57,7 @@ legal_bytes d legal =
     let e₁ = entry_bytes 2 22 (4 * p) (omega arith) (omega arith) (omega arith) in
     let e₂ = entry_bytes 3 (22 + 4 * p) (5 * n) (omega arith) (omega arith) (omega arith) in
     let s : AllBytes (shape p d.exponent n) =
-    next (omega arith) (next (omega arith) (next (omega arith) (next (omega arith) none))) in
+    more (omega arith) (more (omega arith) (more (omega arith) (more (omega arith) none))) in
     let f = each_body word 0 d.fields (λ i. word_bytes (get_or d.fields i 0) (legal.fields_fit i)) in
     let q =
     each_body program_bytes no_program d.programs

@@ -2,7 +2,7 @@
 use Prim.Native.Nat.{ℕ, zero, suc, ◌+◌, ◌*◌, ◌-◌, ◌≤◌, ◌<◌}
 use mathlib.Core.Path.{◌≡◌, refl, ap, sym, ◌∙◌}
 use mathlib.Core.List.{List, [], ◌∷◌, ◌++◌, append-nil}
-use native.Mathlib.Nat.{add-zero, add-suc, suc-add, mul-zero, mul-suc}
+use native.Mathlib.Nat.{mul-zero, mul-suc}
 use native.Mathlib.Numerals.{add-one}
 use native.Mathlib.Omega.{arith}
 use lib.ListN.{length, get_or, set, take, drop, length-drop, drop_of_length-le}
@@ -12,8 +12,8 @@ use Rattle.image.specs.Description.{pad}
 use Rattle.image.proofs.Entries.{length_pad, pad_at}
 
 pub sets_append : (l : List ℕ) (i : ℕ) (s t : List ℕ) → sets (sets l i s) (i + length s) t ≡ sets l i (s ++ t)
-sets_append l i [] t = rw add-zero
-sets_append l i (x ∷ s) t = rw (add-suc, ← suc-add) (sets_append (set l i x) (suc i) s t)
+sets_append l i [] t = grind arith
+sets_append l i (x ∷ s) t = grind (arith, sets_append (set l i x) (suc i) s t)
 
 -- the same where the place behind the first is known by an equation
 pub sets_next : (l : List ℕ) (i next : ℕ) (s t : List ℕ) → next ≡ i + length s → sets (sets l i s) next t ≡ sets l i (s ++ t)
@@ -30,7 +30,7 @@ sets_none i (y ∷ s) = sets_none (suc i) s
 sets_from : (l : List ℕ) (at : ℕ) (s : List ℕ) → take at l ++ sets (drop at l) 0 s ≡ sets l at s
 sets_from l zero s = refl
 sets_from [] (suc at) s = simp sets_none
-sets_from (x ∷ l) (suc at) s = rw sets_behind (ap (λ (t : List ℕ). x ∷ t) (sets_from l at s))
+sets_from (x ∷ l) (suc at) s = grind (arith, sets_behind, sets_from l at s)
 
 -- the part of a string of bytes from a place on, as a function has it that is lent this part
 pub part_from : (l : List ℕ) (at : ℕ) → take (length l - at) (drop at l) ≡ drop at l
@@ -75,3 +75,6 @@ module _ {A : Type 0} (size : ℕ) (write : A → List ℕ) (z : A) (n : ℕ) (l
 
   pub storing_ends : (out : List ℕ) (i : ℕ) → Storing out i → n ≤ i → out ≡ sets start 0 (bodies write (pad n z l))
   storing_ends out i left h = rw (drop_of_length-le (pad n z l) {i = i} (rw (length_pad z n l) h)) at left.rest
+
+-- what the loop of `image::body::write_bodies` stands on
+pub ruleset storing = (storing_starts, storing_next, storing_ends)

@@ -15,8 +15,7 @@ use Rattle.machine.specs.declared.record.Program.{Program}
 use Rattle.machine.proofs.Written.{stored, live, denied, holding, whole}
 use Rattle.image.specs.Bytes.{bodies}
 use Rattle.image.specs.Description.{bytes_of, pad}
-use Rattle.image.specs.Write.{description_of, image_for, write_checks, written_bytes, written_of, buffer_after, restarted}
-use Rattle.image.specs.declared.writer.Written.{Written}
+use Rattle.image.specs.Write.{Written, description_of, image_for, write_checks, written_bytes, written_of, buffer_after, restarted}
 use Rattle.image.proofs.Pinned.{nothing, long_bytes}
 
 -- two pages of 64 bytes, two programs; every place past a count is full, program 0's stored entry differs from the live registers, and there was a

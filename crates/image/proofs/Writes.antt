@@ -3,7 +3,7 @@ use Prim.Native.Nat.{ℕ, ◌+◌, ◌*◌, ◌-◌, ◌≤◌, ◌<◌}
 use mathlib.Core.Path.{◌≡◌, refl, ap, sym, ◌∙◌, subst}
 use mathlib.Core.Bool.{Bool, true, false, not, ◌&&◌}
 use mathlib.Core.List.{List, [], ◌∷◌, ◌++◌}
-use borrow.Author.Tests.{eqb-true, eqb-false, ltb-true, ltb-false, ne_eqb, lt-ltb, le-ltb}
+use borrow.Author.Tests.{eqb-true, eqb-false, ltb-true, ltb-false, ne_eqb}
 use native.Mathlib.Omega.{arith}
 use native.Mathlib.Nat.{zero-add}
 use lib.Dec.{eqb, ltb}
@@ -74,15 +74,6 @@ pub data Gives (m : Machine) (room : ℕ) : ℕ → Type 0 where
   too_short : Ready m → room < size m → Gives m room 27
   done : Ready m → size m ≤ room → Gives m room 0
 
--- where the last, or the second of three tests fails, the others do not matter
-last_fails : (a : Bool) → a && false ≡ false
-last_fails true = refl
-last_fails false = refl
-
-second_fails : (a b : Bool) → a && false && b ≡ false
-second_fails true b = refl
-second_fails false b = refl
-
 module _ (m : Machine) (room : ℕ) where
   abbrev is_short : Bool
   is_short = ltb room (length (image_for m))
@@ -110,22 +101,14 @@ module _ (m : Machine) (room : ℕ) where
   unfolding write_checks
   gives = by_soundness (is_sound m) refl
 
-  by_tests : (s r b : Bool) → is_sound m ≡ s → is_at_rest m ≡ r → is_short ≡ b
-      → first (write_checks m room) ≡ pick (not s) 1 (pick (not r) 26 (pick b 27 0))
-  unfolding write_checks
-  by_tests s r b h i j = rw (h, i, j)
-
-  rests : Ready m → is_at_rest m ≡ true
-  rests r = rw (r.runs_first, r.no_depth, r.flag_clear)
-
   given : {n : ℕ} → Gives m room n → first (write_checks m room) ≡ n
-  given (not_sound h) = by_tests false (is_at_rest m) is_short h refl refl
-  given (other_runs s h) = by_tests true false is_short s (rw (ne_eqb m.current 0 h)) refl
-  given (mode_saved s h) =
-      by_tests true false is_short s (rw (ne_eqb m.depth 0 h) (second_fails (eqb m.current 0) (not m.registers.pending))) refl
-  given (flag_set s h) = by_tests true false is_short s (rw h (last_fails (eqb m.current 0 && eqb m.depth 0))) refl
-  given (too_short r h) = by_tests true true true r.sound (rests r) (lt-ltb room (length (image_for m)) (omega (arith, image_length m)))
-  given (done r h) = by_tests true true false r.sound (rests r) (le-ltb room (length (image_for m)) (omega (arith, image_length m)))
+  unfolding write_checks
+  given (not_sound h) = grind arith
+  given (other_runs s h) = grind arith
+  given (mode_saved s h) = grind arith
+  given (flag_set s h) = grind arith
+  given (too_short r h) = grind (arith, image_length)
+  given (done r h) = grind (arith, image_length)
 
   -- what is known where the number is 0
   pub ready : first (write_checks m room) ≡ 0 → Ready m × (size m ≤ room)
@@ -204,3 +187,6 @@ buffer_kept m buffer =
         let accepted = eqb-true (first (write_checks m (length buffer))) 0 e in
         rw (image_written m buffer accepted) (omega (arith, image_length m, (ready m (length buffer) accepted).1))
     split false e = rw (nothing_written m buffer e) (omega arith)
+
+-- what `image::writer::write` stands on, beside the numbers of the refusals
+pub ruleset writing = (ready, image_parts, done_answer, done_buffer, refused_answer, refused_buffer)

@@ -7,7 +7,6 @@ use Rattle.machine.specs.Machine.{is_sound, no_program}
 use Rattle.machine.specs.declared.record.Machine.{Machine}
 use Rattle.machine.specs.declared.record.Program.{Program}
 use Rattle.image.specs.Description.{Description, bytes_of, pad}
-use Rattle.image.specs.declared.writer.Written.{Written}
 
 -- RULES 5.14: the live registers as a program's entry; the flag is no part of one
 abbrev pub entry_of : Registers → Program
@@ -50,6 +49,11 @@ write_checks m room =
 -- RULES 5.16: the bytes that are written: the whole image where nothing refuses it, else none
 unfoldable pub written_bytes : Machine → ℕ → List ℕ
 written_bytes m room = pick (eqb (first (write_checks m room)) 0) (image_for m) []
+
+-- RULES 5.15, 5.16: what the writer gives back: its number, and how many bytes it wrote
+pub record Written : Type 0 where
+  pub number : ℕ
+  pub count : ℕ
 
 -- RULES 5.15, 5.16: what the writer gives back
 unfoldable pub written_of : Machine → ℕ → Written

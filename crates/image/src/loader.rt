@@ -1,104 +1,52 @@
 // Loading an image (RULES, section 5).
 ghost use Rattle.std.specs.Prelude.{◌≡◌};
-ghost use Rattle.machine.specs.Machine.{no_program};
-ghost use Rattle.image.specs.Description.{pad, machine_of};
-ghost use Rattle.image.specs.Load.{fields_of, program_at, programs_of, describe, load_of};
+ghost use Rattle.image.specs.Description.{machine_of};
+ghost use Rattle.image.specs.Load.{describe, load_of};
 
-use crate::bytes::{byte_at, context_at, field_at, mask_at, mode_at};
-use crate::refusals::{load_number, program_place};
-use machine::calls::mode_of;
-use machine::record::{Answered, LastViolation, Machine, Program, Report, Violations};
-use rules::registers::{Mode, Registers};
+use crate::body::read_bodies;
+use crate::bytes::shape_at;
+use crate::refusals::{check_load, program_place};
+use machine::record::{Answered, Machine, Program, Report};
+use rules::outcome_number;
+use rules::registers::Registers;
 
-// The READ and WRITE fields of the pages, in the machine's 256 places.
-fn fields_of(bytes: &[u8]) -> [u16; 256]
-    ensures { result ≡ pad 256 0 (fields_of bytes.now) }
-{
-    let pages = byte_at(bytes, 18);
-    let mut fields = [0u16; 256];
-    let count = 2 * (pages as u16);
-    let mut i: u16 = 0;
-    while i < count && i < 256 {
-        fields[i as usize] = field_at(bytes, 22 + 2 * i);
-        i += 1;
-    }
-    fields
-}
-
-// The program that stands at a place.
-fn program_at(bytes: &[u8], at: u16) -> Program
-    ensures { result ≡ program_at bytes.now at }
-{
-    Program {
-        context: context_at(bytes, at),
-        mask: mask_at(bytes, at),
-        mode: mode_of(mode_at(bytes, at) as u16),
-    }
-}
-
-// The programs, in the machine's eight places.
-fn table_of(bytes: &[u8]) -> [Program; 8]
-    ensures { result ≡ pad 8 no_program (programs_of bytes.now) }
-{
-    let pages = byte_at(bytes, 18);
-    let programs = byte_at(bytes, 20);
-    let mut table = [Program {
-        context: 0,
-        mask: 0,
-        mode: Mode::User,
-    }; 8];
-    let mut i: u8 = 0;
-    while i < programs && i < 8 {
-        table[i as usize] = program_at(bytes, program_place(pages, i));
-        i += 1;
-    }
-    table
-}
-
-// The machine that the bytes describe, of any bytes.
+// The machine that the bytes describe, of any bytes: the fields and the programs fill the machine's 256 and its eight places.
 fn machine_of(bytes: &[u8]) -> Machine
     ensures { result ≡ machine_of (describe bytes.now) }
 {
-    let table = table_of(bytes);
+    let shape = shape_at(bytes);
+    let first = program_place(shape.pages, 0) as u32;
+    let table: [Program; 8] = read_bodies(bytes, first, shape.programs as usize);
     let live = table[0];
-    let mode = live.mode;
     Machine {
-        pages: byte_at(bytes, 18) as u16,
-        exponent: byte_at(bytes, 19),
-        fields: fields_of(bytes),
+        pages: shape.pages as u16,
+        exponent: shape.exponent,
+        fields: read_bodies(bytes, 22, 2 * shape.pages as usize),
         registers: Registers {
             context: live.context,
             mask: live.mask,
-            mode,
+            mode: live.mode,
             pending: false,
         },
-        depth: 0,
-        saved: [false; 8],
-        programs: byte_at(bytes, 20) as u16,
-        current: 0,
+        programs: shape.programs as u16,
         table,
-        violations: Violations {
-            last: LastViolation::Absent,
-        },
+        ..Machine::zero()
     }
 }
 
 // The load of an image: its number, and the machine it describes where that is 0, the all-zero machine where not.
+#[tactic(auto, using(rules::proofs::Outcomes::refused), unfolding(crate::specs::Load::load_of))]
 pub fn load(bytes: &[u8]) -> Answered
     ensures { result ≡ load_of bytes.now }
 {
-    let number = load_number(bytes);
-    let loads = number == 0;
-    if loads {
-        return Answered {
-            number,
-            machine: machine_of(bytes),
-            report: Report::Nothing,
-        };
-    }
+    let outcome = check_load(bytes);
+    let machine = match outcome {
+        Ok(()) => machine_of(bytes),
+        Err(_) => Machine::zero(),
+    };
     Answered {
-        number,
-        machine: Machine::zero(),
+        number: outcome_number(outcome),
+        machine,
         report: Report::Nothing,
     }
 }

@@ -1,126 +1,104 @@
 // What a load refuses (RULES 5.8), each condition worked out on any string of bytes.
-ghost use Rattle.std.specs.Prelude.{◌≡◌, [], ◌∷◌, ◌+◌, ◌*◌};
-ghost use Rattle.rules.specs.Refusals.{first, ◌⇒◌};
+ghost use Rattle.std.specs.Prelude.{◌≡◌, ◌+◌, ◌*◌};
+ghost use Rattle.rules.specs.Refusals.{first, outcome_number};
 ghost use Rattle.image.specs.Load.{every, length_tests, kind_tests, shape_entry_tests, shape_tests, body_tests, are_modes, modes_of, load_checks};
 
-use crate::bytes::{byte_at, kind_at, length_at, mode_at, offset_at, zero_at};
+use crate::bytes::{byte_at, entry_at, mode_at, shape_at};
 use machine::record::memory_size;
+use rules::Refusal;
 
+#[tactic(auto, unfolding(crate::specs::Load::length_tests))]
 fn length_holds(bytes: &[u8]) -> bool
     ensures { result ≡ every (length_tests bytes.now) }
 {
-    (31 <= bytes.len()) & (bytes.len() <= 574)
+    (31..=574).contains(&bytes.len())
 }
 
+#[tactic(auto, unfolding(crate::specs::Load::kind_tests))]
 fn kinds_hold(bytes: &[u8]) -> bool
     ensures { result ≡ every (kind_tests bytes.now) }
 {
-    (kind_at(bytes, 0) == 1)
-        & (zero_at(bytes, 0) == 0)
-        & (kind_at(bytes, 1) == 2)
-        & (zero_at(bytes, 1) == 0)
-        & (kind_at(bytes, 2) == 3)
-        & (zero_at(bytes, 2) == 0)
+    let shape = entry_at(bytes, 0);
+    let pages = entry_at(bytes, 1);
+    let programs = entry_at(bytes, 2);
+    shape.kind == 1
+        && shape.zero == 0
+        && pages.kind == 2
+        && pages.zero == 0
+        && programs.kind == 3
+        && programs.zero == 0
 }
 
+#[tactic(auto, unfolding(crate::specs::Load::shape_entry_tests))]
 fn shape_entry_holds(bytes: &[u8]) -> bool
     ensures { result ≡ every (shape_entry_tests bytes.now) }
 {
-    (offset_at(bytes, 0) == 18) & (length_at(bytes, 0) == 4)
+    let shape = entry_at(bytes, 0);
+    shape.offset == 18 && shape.length == 4
 }
 
+#[tactic(auto, unfolding(crate::specs::Load::shape_tests))]
 fn shape_holds(bytes: &[u8]) -> bool
     ensures { result ≡ every (shape_tests bytes.now) }
 {
-    let pages = byte_at(bytes, 18);
-    let exponent = byte_at(bytes, 19);
-    let programs = byte_at(bytes, 20);
-    (1 <= pages)
-        & (pages <= 128)
-        & (5 <= exponent)
-        & (exponent <= 12)
-        & (1 <= programs)
-        & (programs <= 8)
-        & (byte_at(bytes, 21) == 0)
-        & (memory_size(pages as u16, exponent) <= 65536)
+    let shape = shape_at(bytes);
+    (1..=128).contains(&shape.pages)
+        && (5..=12).contains(&shape.exponent)
+        && (1..=8).contains(&shape.programs)
+        && byte_at(bytes, 21) == 0
+        && memory_size(shape.pages as u16, shape.exponent) <= 65536
 }
 
 // Where a program starts, programs counted from 0; past the last program that is where the image ends.
 pub fn program_place(pages: u8, program: u8) -> u16
     ensures { result ≡ 22 + 4 * pages + 5 * program }
 {
-    22 + 4 * (pages as u16) + 5 * (program as u16)
+    22 + 4 * pages as u16 + 5 * program as u16
 }
 
+#[tactic(auto, unfolding(crate::specs::Load::body_tests))]
 fn bodies_hold(bytes: &[u8]) -> bool
     ensures { result ≡ every (body_tests bytes.now) }
 {
-    let pages = byte_at(bytes, 18);
-    let programs = byte_at(bytes, 20);
-    (offset_at(bytes, 1) == 22)
-        & (length_at(bytes, 1) == 4 * (pages as u16))
-        & (offset_at(bytes, 2) == 22 + 4 * (pages as u16))
-        & (length_at(bytes, 2) == 5 * (programs as u16))
-        & (bytes.len() == program_place(pages, programs) as usize)
+    let shape = shape_at(bytes);
+    let pages = entry_at(bytes, 1);
+    let programs = entry_at(bytes, 2);
+    pages.offset == 22
+        && pages.length == 4 * shape.pages as u16
+        && programs.offset == program_place(shape.pages, 0)
+        && programs.length == 5 * shape.programs as u16
+        && bytes.len() == program_place(shape.pages, shape.programs) as usize
 }
 
 fn modes_hold(bytes: &[u8]) -> bool
     ensures { result ≡ are_modes (modes_of bytes.now) }
 {
-    let pages = byte_at(bytes, 18);
-    let programs = byte_at(bytes, 20);
-    let mut i: u8 = 0;
-    while i < programs {
-        if 1 < mode_at(bytes, program_place(pages, i)) {
-            return false;
-        }
-        i += 1;
-    }
-    true
+    let shape = shape_at(bytes);
+    (0..shape.programs).all(|program| mode_at(bytes, program_place(shape.pages, program)) <= 1)
 }
 
-// The number of the first condition that is met.
-fn first_refusal(
-    badlength: bool,
-    badkinds: bool,
-    badentry: bool,
-    badshape: bool,
-    badbodies: bool,
-    badmodes: bool,
-) -> u8
-    ensures { result ≡ first ((badlength ⇒ 20) ∷ (badkinds ⇒ 21) ∷ (badentry ⇒ 22) ∷ (badshape ⇒ 23) ∷ (badbodies ⇒ 24) ∷ (badmodes ⇒ 25) ∷ []) }
+// Why a load is refused, by the first condition that is met.
+#[tactic(auto, unfolding(crate::specs::Load::load_checks))]
+pub fn check_load(bytes: &[u8]) -> Result<(), Refusal>
+    ensures { outcome_number result ≡ first (load_checks bytes.now) }
 {
-    if badlength {
-        return 20;
+    if !length_holds(bytes) {
+        return Err(Refusal::WrongLength);
     }
-    if badkinds {
-        return 21;
+    if !kinds_hold(bytes) {
+        return Err(Refusal::WrongKinds);
     }
-    if badentry {
-        return 22;
+    if !shape_entry_holds(bytes) {
+        return Err(Refusal::WrongShapeEntry);
     }
-    if badshape {
-        return 23;
+    if !shape_holds(bytes) {
+        return Err(Refusal::WrongShape);
     }
-    if badbodies {
-        return 24;
+    if !bodies_hold(bytes) {
+        return Err(Refusal::WrongBodies);
     }
-    if badmodes {
-        return 25;
+    if !modes_hold(bytes) {
+        return Err(Refusal::WrongModes);
     }
-    0
-}
-
-// The number of a load.
-pub fn load_number(bytes: &[u8]) -> u8
-    ensures { result ≡ first (load_checks bytes.now) }
-{
-    first_refusal(
-        !length_holds(bytes),
-        !kinds_hold(bytes),
-        !shape_entry_holds(bytes),
-        !shape_holds(bytes),
-        !bodies_hold(bytes),
-        !modes_hold(bytes),
-    )
+    Ok(())
 }

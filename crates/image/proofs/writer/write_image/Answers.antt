@@ -14,20 +14,21 @@ use Rattle.image.proofs.writer.write_image.Goals as goal
 pub returns-clause-buf_after : goal.returns-clause-buf_after
 returns-clause-buf_after c =
     let a = c.args in
+    let n = a.counts.programs in
     let d : Description =
     record {
-      pages = a.pages;
-      exponent = a.exponent;
-      fields = pad (2 * a.pages) 0 a.fields.now;
-      programs = pad a.programs no_program a.table;
+      pages = a.counts.pages;
+      exponent = a.counts.exponent;
+      fields = pad (2 * a.counts.pages) 0 a.fields.now;
+      programs = pad n no_program a.table.now;
     } in
-    let at : c.program_place-first.result ≡ 22 + 4 * a.pages = omega (arith, c.program_place-first.ensures) in
+    let at : c.program_place-first.result ≡ 22 + 4 * d.pages = omega (arith, c.program_place-first.ensures) in
     let first = c.write_contents.new.out in
     let second = returned first 18 c.write_shape.new.out in
-    let third = returned second 22 c.write_pages.new.out in
-    let shaped = sets_part first 18 (shape_of a.pages a.exponent a.programs) _ c.write_shape.ensures in
-    let paged = sets_part second 22 (bodies word d.fields) _ c.write_pages.ensures in
-    let whole = sets_part third c.program_place-first.result (bodies program_bytes d.programs) _ c.write_programs.ensures in
+    let third = returned second 22 c.write_bodies.new.out in
+    let shaped = sets_part first 18 (shape_of d.pages d.exponent n) _ c.write_shape.ensures in
+    let paged = sets_part second 22 (bodies word d.fields) _ c.write_bodies.ensures in
+    let whole = sets_part third c.program_place-first.result (bodies program_bytes d.programs) _ c.write_bodies-2.ensures in
     whole
     ∙ rw (paged, shaped, c.write_contents.ensures, at)
-    (stored_parts d a.programs a.buf.now (length_pad 0 (2 * a.pages) a.fields.now) (length_pad no_program a.programs a.table))
+    (stored_parts d n a.buf.now (length_pad 0 (2 * d.pages) a.fields.now) (length_pad no_program n a.table.now))
