@@ -1,4 +1,4 @@
-mod Puts
+pub mod Puts
 pub mod Sums
 pub mod Decimals
 pub mod Printed

@@ -1,14 +1,14 @@
--- `text::put_run` meets its contract: the load's line, the lines of the calls and the word for a remainder are put one after another.
+-- `text::Text::put_run` meets its contract: the load's line, the lines of the calls and the word for a remainder are put one after another.
 use Prim.Native.Nat.{ℕ}
 use mathlib.Core.Path.{◌≡◌, ap}
 use mathlib.Core.List.{map}
 use native.Mathlib.Omega.{arith}
 use lib.ListN.{length, get_or, take, drop, replicate, length-drop, length-replicate}
 use Rattle.run.specs.Run.{answers_of, call_reports, loaded_of, name_of, report_named}
-use Rattle.text.proofs.Puts.{put_put, put_long}
+use Rattle.text.proofs.Puts.{wrote_then, wrote_long}
 use Rattle.text.proofs.Printed.{load_most, lines_most, answers_fit, front, front_names, run_text_lem}
-use Rattle.text.proofs.put_run.Goals.{After-run_named-count}
-use Rattle.text.proofs.put_run.Goals as goal
+use Rattle.text.proofs.Text.put_run.Goals.{After-run_named-count}
+use Rattle.text.proofs.Text.put_run.Goals as goal
 
 -- what the run answered
 answered : (c : After-run_named-count)
@@ -27,12 +27,12 @@ named c =
     front_names c.args.input.now (replicate 5462 0) c.requires.0 (length-replicate {A = ℕ} 5462 0) (answered c).0
     (rw (length-replicate {A = ℕ} 5462 0) at c.run_named-count.ensures.names_after)
 
-pub put_lines-b-requires-clause-answers_in_bounds : goal.put_lines-b-requires-clause-answers_in_bounds
-put_lines-b-requires-clause-answers_in_bounds c =
-    let sending = (goal.at.put_lines-b-requires-clause-answers_in_bounds c).After-run_named-count in
+pub put_lines-requires-clause-room : goal.put_lines-requires-clause-room
+put_lines-requires-clause-room c =
+    let sending = (goal.at.put_lines-requires-clause-room c).After-run_named-count in
     let most = answers_fit c.args.input.now c.requires.0 in
     let longest = load_most (get_or c.run_named-count.new.answers 0 0) in
-    rw (answered sending).1 (omega (arith, most, put_long c.put_load-a.ensures, longest))
+    rw (answered sending).1 (omega (arith, most, wrote_long c.put_load.ensures, longest))
 
 pub put_cut-requires : goal.put_cut-requires
 put_cut-requires c =
@@ -42,11 +42,11 @@ put_cut-requires c =
     let names = take c.run_named-count.result c.run_named-count.new.names in
     let most = answers_fit c.args.input.now c.requires.0 in
     let sent = ap length (answered sending).1 in
-    omega (arith, put_long, load_most (get_or exit 0 0), lines_most 1 (drop 1 answers) (map report_named (drop 1 names)), length-drop 1 answers, sent, most)
+    omega (arith, wrote_long, load_most (get_or exit 0 0), lines_most 1 (drop 1 answers) (map report_named (drop 1 names)), length-drop 1 answers, sent, most)
 
 pub returns : goal.returns
 returns c =
     let sending = (goal.at.returns c).After-run_named-count in
     let sent = answered sending in
     rw (← run_text_lem c.args.input.now c.calls_start.ensures, ← sent.2, ← c.bytes_taken.ensures)
-    (put_put c.put_load-a.ensures (put_put (rw (sent.1, (named sending).0) at c.put_lines-b.ensures) c.put_cut.ensures))
+    (wrote_then c.put_load.ensures (wrote_then (rw (sent.1, (named sending).0) at c.put_lines.ensures) c.put_cut.ensures))
