@@ -8,7 +8,6 @@ use native.Mathlib.Omega.{arith}
 use borrow.Author.Tests.{lt-ltb, le-ltb}
 use lib.Dec.{leb}
 use lib.ListN.{length, get_or, length-append}
-use lib.Seq.{sets}
 use Rattle.rules.specs.Refusals.{pick}
 use Rattle.rights.specs.Site.{Image, images_of, rights_held, total_of, refused_of, is_long, counted_of}
 use Rattle.text.specs.Text.{letters, decimal_of, column}

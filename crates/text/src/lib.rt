@@ -101,7 +101,7 @@ impl Text<'_> {
     {
         self.put_bytes(b"load ");
         self.put_decimal(u32::from(answer));
-        self.put_byte(b'\n');
+        self.put_bytes(b"\n");
     }
 
     // The word for a remainder of the call bytes.

@@ -49,12 +49,12 @@ impl Text<'_> {
     }
 
     // The line of the totals.
-    fn put_total(&mut self, reads: u32, writes: u32)
+    fn put_total(&mut self, read_total: u32, write_total: u32)
         requires { HasRoom 20 self.old }
-        ensures { Wrote self.old self.new (total_line reads writes) }
+        ensures { Wrote self.old self.new (total_line read_total write_total) }
     {
         self.put_bytes(b"total");
-        self.put_sums(reads, writes);
+        self.put_sums(read_total, write_total);
     }
 
     // The line of the images that did not load.

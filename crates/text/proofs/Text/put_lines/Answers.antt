@@ -1,9 +1,8 @@
 -- `text::Text::put_lines` meets its contract: each turn puts one more line.
-use Prim.Native.Nat.{◌≤◌}
 use mathlib.Core.Path.{◌≡◌}
 use mathlib.Core.List.{[]}
 use native.Mathlib.Omega.{arith}
-use lib.ListN.{length, get_or, drop, drop_of_length-le}
+use lib.ListN.{get_or, drop, drop_of_length-le}
 use Rattle.run.specs.Run.{report_named}
 use Rattle.text.specs.Text.{lines_from}
 use Rattle.text.proofs.Puts.{line_most, lines_next, wrote_none, wrote_then, wrote_long}

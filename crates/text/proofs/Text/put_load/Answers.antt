@@ -4,9 +4,9 @@ use Rattle.text.specs.Text.{load_line}
 use Rattle.text.proofs.Puts.{wrote_then, wrote_long, decimal_most}
 use Rattle.text.proofs.Text.put_load.Goals as goal
 
-pub put_byte-requires : goal.put_byte-requires
-put_byte-requires c = omega (arith, wrote_long, decimal_most c.from.result)
+pub put_bytes-requires-2 : goal.put_bytes-requires-2
+put_bytes-requires-2 c = omega (arith, wrote_long, decimal_most c.from.result)
 
 pub returns : goal.returns
 unfolding load_line
-returns c = wrote_then (wrote_then c.put_bytes.ensures (rw c.from.ensures at c.put_decimal.ensures)) c.put_byte.ensures
+returns c = wrote_then (wrote_then c.put_bytes.ensures (rw c.from.ensures at c.put_decimal.ensures)) c.put_bytes-2.ensures
