@@ -89,6 +89,9 @@ pub line_most : (i answer : ℕ) (report : Report) → length (line_of i answer 
 unfolding line_of
 line_most i answer report = simp length-append (omega (arith, decimal_most i, decimal_most answer, name_most report))
 
+-- how much room pieces leave: none of them is longer than its `most` says
+pub ruleset room = (arith, wrote_long, decimal_most, name_most)
+
 -- the lines of the answers from i on with their names are the line of the answer at i and those past it
 pub lines_next : (answers names : List ℕ) (i : ℕ) → i < length answers → i < length names
     → lines_from i (drop i answers) (map report_named (drop i names))

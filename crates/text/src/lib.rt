@@ -137,7 +137,9 @@ impl Text<'_> {
         let number = answers[0];
         self.put_load(number);
         self.put_lines(&answers[..count], &names[..count]);
-        self.put_cut(bytes_taken(number, input.len() - calls_start(input)));
+        if number == 0 {
+            self.put_cut(input.len() - calls_start(input));
+        }
     }
 
     // The text of an input.
@@ -151,13 +153,6 @@ impl Text<'_> {
             self.put_run(input);
         }
     }
-}
-
-// The bytes that the calls were read from; none after a refused load.
-fn bytes_taken(number: u8, left: usize) -> usize
-    ensures { result ≡ pick (eqb number 0) left 0 }
-{
-    if number == 0 { left } else { 0 }
 }
 
 // The text of an input, and how long it is: nothing where the buffer has under 100,000 bytes, which is room for every text.

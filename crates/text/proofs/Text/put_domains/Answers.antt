@@ -4,7 +4,7 @@ use mathlib.Core.Path.{◌≡◌}
 use native.Mathlib.Omega.{arith}
 use lib.ListN.{get_or}
 use Rattle.text.specs.Rights.{domain_lines}
-use Rattle.text.proofs.Puts.{wrote_none, wrote_then, wrote_long}
+use Rattle.text.proofs.Puts.{wrote_none, wrote_then, room}
 use Rattle.text.proofs.Sums.{domain_most, domains_next}
 use Rattle.text.proofs.Text.put_domains.Goals as goal
 
@@ -13,7 +13,7 @@ loop-s-preserved c =
     let l = c.loop-s in
     let reads : ℕ → ℕ = λ s. get_or c.args.sums.now.reads s 0 in
     let writes : ℕ → ℕ = λ s. get_or c.args.sums.now.writes s 0 in (
-      omega (arith, wrote_long, domain_most l.s (reads l.s) (writes l.s), l.invariant.0),
+      omega (room, domain_most),
       λ after rest. l.invariant.1 after (rw (domains_next reads writes l.s (omega arith)) (wrote_then c.put_domain.ensures rest)),
     )
 

@@ -1,11 +1,10 @@
 -- `text::Text::put_load` meets its contract: its parts are put one after another.
-use native.Mathlib.Omega.{arith}
 use Rattle.text.specs.Text.{load_line}
-use Rattle.text.proofs.Puts.{wrote_then, wrote_long, decimal_most}
+use Rattle.text.proofs.Puts.{wrote_then, room}
 use Rattle.text.proofs.Text.put_load.Goals as goal
 
 pub put_bytes-requires-2 : goal.put_bytes-requires-2
-put_bytes-requires-2 c = omega (arith, wrote_long, decimal_most c.from.result)
+put_bytes-requires-2 c = omega room
 
 pub returns : goal.returns
 unfolding load_line

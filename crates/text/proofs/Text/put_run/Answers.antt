@@ -1,12 +1,11 @@
 -- `text::Text::put_run` meets its contract: the load's line, the lines of the calls and the word for a remainder are put one after another.
 use Prim.Native.Nat.{ℕ}
-use mathlib.Core.Path.{◌≡◌, ap}
+use mathlib.Core.Path.{◌≡◌, ap, sym, ◌∙◌}
 use mathlib.Core.List.{map}
-use native.Mathlib.Omega.{arith}
 use lib.ListN.{length, get_or, take, drop, replicate, length-drop, length-replicate}
-use Rattle.run.specs.Run.{answers_of, call_reports, loaded_of, name_of, report_named}
-use Rattle.text.proofs.Puts.{wrote_then, wrote_long}
-use Rattle.text.proofs.Printed.{load_most, lines_most, answers_fit, front, front_names, run_text_lem}
+use Rattle.run.specs.Run.{answers_of, call_reports, loaded_of, name_of}
+use Rattle.text.proofs.Puts.{wrote_then, room}
+use Rattle.text.proofs.Printed.{load_most, lines_most, answers_fit, front, front_names, run_text_loaded, run_text_refused}
 use Rattle.text.proofs.Text.put_run.Goals.{After-run_named-count}
 use Rattle.text.proofs.Text.put_run.Goals as goal
 
@@ -30,23 +29,23 @@ named c =
 pub put_lines-requires-clause-room : goal.put_lines-requires-clause-room
 put_lines-requires-clause-room c =
     let sending = (goal.at.put_lines-requires-clause-room c).After-run_named-count in
-    let most = answers_fit c.args.input.now c.requires.0 in
-    let longest = load_most (get_or c.run_named-count.new.answers 0 0) in
-    rw (answered sending).1 (omega (arith, most, wrote_long c.put_load.ensures, longest))
+    rw (answered sending).1 (omega (room, load_most, answers_fit c.args.input.now c.requires.0))
 
 pub put_cut-requires : goal.put_cut-requires
 put_cut-requires c =
     let sending = (goal.at.put_cut-requires c).After-run_named-count in
-    let exit = c.run_named-count.new.answers in
-    let answers = take c.run_named-count.result exit in
-    let names = take c.run_named-count.result c.run_named-count.new.names in
-    let most = answers_fit c.args.input.now c.requires.0 in
-    let sent = ap length (answered sending).1 in
-    omega (arith, wrote_long, load_most (get_or exit 0 0), lines_most 1 (drop 1 answers) (map report_named (drop 1 names)), length-drop 1 answers, sent, most)
+    omega (room, load_most, lines_most, length-drop {A = ℕ}, ap length (answered sending).1, answers_fit c.args.input.now c.requires.0)
 
-pub returns : goal.returns
-returns c =
-    let sending = (goal.at.returns c).After-run_named-count in
+pub returns-then-number-eq0 : goal.returns-then-number-eq0
+returns-then-number-eq0 c =
+    let sending = (goal.at.returns-then-number-eq0 c).After-run_named-count in
     let sent = answered sending in
-    rw (← run_text_lem c.args.input.now c.calls_start.ensures, ← sent.2, ← c.bytes_taken.ensures)
+    rw (← run_text_loaded c.args.input.now (sym sent.2 ∙ c.if-number-eq0.true) c.calls_start.ensures, ← sent.2)
     (wrote_then c.put_load.ensures (wrote_then (rw (sent.1, (named sending).0) at c.put_lines.ensures) c.put_cut.ensures))
+
+pub returns-else-number-eq0 : goal.returns-else-number-eq0
+returns-else-number-eq0 c =
+    let sending = (goal.at.returns-else-number-eq0 c).After-run_named-count in
+    let sent = answered sending in
+    rw (← run_text_refused c.args.input.now (λ loads. c.if-number-eq0.false (sent.2 ∙ loads)), ← sent.2)
+    (wrote_then c.put_load.ensures (rw (sent.1, (named sending).0) at c.put_lines.ensures))

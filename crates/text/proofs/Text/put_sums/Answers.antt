@@ -1,15 +1,14 @@
 -- `text::Text::put_sums` meets its contract: both numbers and the end of the line are put one after another.
-use native.Mathlib.Omega.{arith}
 use Rattle.text.specs.Rights.{sums_of}
-use Rattle.text.proofs.Puts.{wrote_then, wrote_long}
+use Rattle.text.proofs.Puts.{wrote_then, room}
 use Rattle.text.proofs.Sums.{sum_most}
 use Rattle.text.proofs.Text.put_sums.Goals as goal
 
 pub put_sum-requires-2 : goal.put_sum-requires-2
-put_sum-requires-2 c = omega (arith, wrote_long, sum_most c.args.reads)
+put_sum-requires-2 c = omega (room, sum_most)
 
 pub put_byte-requires : goal.put_byte-requires
-put_byte-requires c = omega (arith, wrote_long, sum_most c.args.reads, sum_most c.args.writes)
+put_byte-requires c = omega (room, sum_most)
 
 pub returns : goal.returns
 unfolding sums_of
