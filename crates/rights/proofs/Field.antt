@@ -1,6 +1,6 @@
 -- One field added to a column of seventeen places, domain by domain and then to the total: what holds after so many domains.
 use Prim.Native.Nat.{ℕ, ◌+◌, ◌≤◌, ◌<◌}
-use mathlib.Core.Path.{◌≡◌, refl, sym, ap, ◌∙◌}
+use mathlib.Core.Path.{◌≡◌, refl, sym, ◌∙◌}
 use mathlib.Core.Bool.{Bool, true, false}
 use mathlib.Core.List.{List, [], ◌∷◌}
 use native.Mathlib.Omega.{arith}
@@ -20,27 +20,6 @@ module _ (start : List ℕ) (field : ℕ) where
     pub size : length column ≡ length start
     pub done : (i : ℕ) → i < s → get_or column i 0 ≡ get_or start i 0 + pick (holds field i) 1 0
     pub left : (i : ℕ) → s ≤ i → get_or column i 0 ≡ get_or start i 0
-
-  pub adding_starts : AddedBelow 0 start
-  adding_starts = record { size = refl; done = λ i h. absurd (omega arith); left = λ i from. refl }
-
-  pub adding_next : (s : ℕ) (column : List ℕ) → length start ≡ 17 → s < 16 → AddedBelow s column
-      → AddedBelow (s + 1) (set column s (get_or column s 0 + pick (holds field s) 1 0))
-  adding_next s column long h so =
-      record {
-        size = length-set column s _ ∙ so.size;
-        done = λ i below. split i (eqb i s) refl below;
-        left = λ i from. get_or-set_other column s i _ 0 (omega arith) ∙ so.left i (omega arith);
-      }
-    where
-      split : (i : ℕ) (t : Bool) → eqb i s ≡ t → i < s + 1
-          → get_or (set column s (get_or column s 0 + pick (holds field s) 1 0)) i 0 ≡ get_or start i 0 + pick (holds field i) 1 0
-      split i true e below =
-          rw (eqb-true i s e)
-          (get_or-set_same column s _ 0 (omega (arith, so.size)) ∙ ap (λ (n : ℕ). n + pick (holds field s) 1 0) (so.left s (omega arith)))
-      split i false e below =
-          let apart = eqb-false i s e in
-          get_or-set_other column s i _ 0 apart ∙ so.done i (omega (arith, apart))
 
   pub adding_ends : (s : ℕ) (column : List ℕ) → length start ≡ 17 → s ≤ 16 → 16 ≤ s → AddedBelow s column
       → set column 16 (get_or column 16 0 + domain_count field) ≡ added start (field ∷ [])
