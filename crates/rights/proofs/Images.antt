@@ -114,10 +114,6 @@ pub same_sums : {reads reads' writes writes' : List ℕ} {refused refused' : ℕ
     let sums' : Sums = record { reads = reads'; writes = writes'; refused = refused' } in sums ≡ sums'
 same_sums a b c = rw (a, b, c)
 
-pub images_none : (sums : Sums) → with_images sums [] ≡ sums
-unfolding fields_over refused_of
-images_none sums = rw (added_none 0 sums.reads, added_none 0 sums.writes, add-zero)
-
 pub images_then : (sums : Sums) (image : Image) (rest : List Image) → with_images (with_images sums (image ∷ [])) rest ≡ with_images sums (image ∷ rest)
 unfolding fields_over refused_of
 images_then sums image rest =

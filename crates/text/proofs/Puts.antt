@@ -1,5 +1,5 @@
 -- Texts put one after another are their join put at once; what a name stands for in a line; and how long the pieces of a line are at the most.
-use Prim.Native.Nat.{ℕ, zero, suc, ◌+◌, ◌-◌, ◌/◌, ◌%◌, ◌≤◌, ◌<◌}
+use Prim.Native.Nat.{ℕ, ◌+◌, ◌-◌, ◌/◌, ◌%◌, ◌≤◌, ◌<◌}
 use mathlib.Core.Path.{◌≡◌, refl, ap, sym, ◌∙◌}
 use mathlib.Core.Bool.{Bool, true, false}
 use mathlib.Core.List.{List, [], ◌∷◌, ◌++◌, map, foldl}
@@ -7,7 +7,7 @@ use native.Mathlib.Nat.{add-zero}
 use native.Mathlib.Numerals.{add-one}
 use native.Mathlib.Omega.{arith}
 use lib.Dec.{leb}
-use lib.ListN.{length, get_or, take, drop, length-append}
+use lib.ListN.{length, get_or, drop, length-append}
 use lib.Seq.{sets, sets-eq, length-sets, drop-cons, drop-drop}
 use borrow.Rule.Slice.PartMut.{put_mid}
 use Rattle.std.proofs.Common.{append_assoc}
@@ -51,17 +51,6 @@ mid_stored l new at h =
 abbrev pub leading_digits : (n : ℕ) (powers : List ℕ) → List ℕ
 leading_digits n powers = foldl (λ digits power. digits ++ leading_digit n power) [] powers
 
-pub digits_next : (n : ℕ) (powers : List ℕ) (i : ℕ) → i < length powers
-    → leading_digits n (take i powers) ++ leading_digit n (get_or powers i 0) ≡ leading_digits n (take (i + 1) powers)
-digits_next n powers i h = rw add-one (behind [] powers i h)
-  where
-    behind : (digits powers : List ℕ) (i : ℕ) → i < length powers
-        → foldl (λ digits power. digits ++ leading_digit n power) digits (take i powers) ++ leading_digit n (get_or powers i 0)
-        ≡ foldl (λ digits power. digits ++ leading_digit n power) digits (take (suc i) powers)
-    behind digits [] i h = absurd (omega arith)
-    behind digits (power ∷ powers) zero h = refl
-    behind digits (power ∷ powers) (suc i) h = behind (digits ++ leading_digit n power) powers i (omega arith)
-
 pub leading_most : (n power : ℕ) → length (leading_digit n power) ≤ 1
 leading_most n power = split (leb power n)
   where
@@ -79,11 +68,6 @@ pub name_most : (report : Report) → length (name_text report) ≤ 5
 name_most Nothing = omega arith
 name_most (Denied violation) = omega arith
 name_most (Through s) = decimal_most s.0
-
--- a name that is not 0 stands for the domain one below it
-pub named_above : (name : ℕ) → (name ≡ 0 → ⊥) → name_text (report_named name) ≡ decimal_of (name - 1)
-named_above zero some = absurd (some refl)
-named_above (suc s) some = ap decimal_of (omega arith)
 
 pub line_most : (i answer : ℕ) (report : Report) → length (line_of i answer report) ≤ 18
 unfolding line_of
