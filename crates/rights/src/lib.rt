@@ -22,12 +22,13 @@ pub struct Sums {
 }
 
 // Adds the domains of a field to a column. The bounds of columns, here and below, are far above what an input can give and far below what 32 bits hold, so that no sum wraps.
+// Domains are counted in 16 bits: a place that is narrowed to a domain costs four instructions a field more, and a test before `+= 1` seven times the time.
 fn add_field(column: &mut [u32; 17], field: u16)
     requires { Column 4000000000 column.old }
     ensures { column.new ≡ added column.old (field ∷ []) }
 {
-    for s in 0..16 {
-        column[s] += u32::from(holds_domain(field, s as u16));
+    for s in 0..16u16 {
+        column[s as usize] += u32::from(holds_domain(field, s));
     }
     column[16] += domain_count(field);
 }
