@@ -138,7 +138,7 @@ unfolding counted_of images_past fields_holding fields_in fields_over sum_below 
 sites_counted = (refl, refl, refl, refl)
 
 -- RULES 13.8: what each answer says of an input
-pub answers_spelled : (sums : Sums)
+pub answer_counted : (sums : Sums)
     → (counted_as None ≡ record { long = true; reads = replicate 17 0; writes = replicate 17 0; refused = 0 })
     × (counted_as (Some sums) ≡ record { long = false; reads = sums.reads; writes = sums.writes; refused = sums.refused })
-answers_spelled sums = (refl, refl)
+answer_counted sums = (refl, refl)

@@ -1,4 +1,4 @@
-pub mod Puts
+mod Puts
 pub mod Sums
 pub mod Decimals
 pub mod Printed

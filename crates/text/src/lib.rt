@@ -52,7 +52,7 @@ impl Text<'_> {
         }
     }
 
-    // A number below 100,000 in decimal; of a greater one the last five digits.
+    // A number below 100,000 in decimal; of a greater one the last five digits, as `decimal_of` says it, so that this is not `Display`.
     fn put_decimal(&mut self, n: u32)
         requires { HasRoom 5 self.old }
         ensures { Wrote self.old self.new (decimal_of n) }
@@ -114,7 +114,7 @@ impl Text<'_> {
         }
     }
 
-    // The lines of the calls, from the answers of a run, the load's first, and what they name.
+    // The lines of the calls, from the answers of a run, the load's first, and what they name: two lists, as `run_named` fills the two buffers of the bench (RULES 7.7).
     fn put_lines(&mut self, answers: &[u8], names: &[u32])
         requires answers_len_bound { length answers.now ≤ 65536 }
         requires names_len { length names.now ≡ length answers.now }
