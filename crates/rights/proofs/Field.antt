@@ -1,6 +1,6 @@
 -- One field added to a column of seventeen places, domain by domain and then to the total: what holds after so many domains.
 use Prim.Native.Nat.{ℕ, ◌+◌, ◌≤◌, ◌<◌}
-use mathlib.Core.Path.{◌≡◌, refl, sym, ap, ◌∙◌}
+use mathlib.Core.Path.{◌≡◌, refl, sym, ◌∙◌}
 use mathlib.Core.Bool.{Bool, true, false}
 use mathlib.Core.List.{List, [], ◌∷◌}
 use native.Mathlib.Omega.{arith}
@@ -17,37 +17,14 @@ use Rattle.rights.proofs.Added.{length_added, added_at}
 module _ (start : List ℕ) (field : ℕ) where
   -- what holds after the domains below s
   pub record AddedBelow (s : ℕ) (column : List ℕ) : Type 0 where
-    pub within : s ≤ 16
     pub size : length column ≡ length start
     pub done : (i : ℕ) → i < s → get_or column i 0 ≡ get_or start i 0 + pick (holds field i) 1 0
     pub left : (i : ℕ) → s ≤ i → get_or column i 0 ≡ get_or start i 0
 
-  pub adding_starts : AddedBelow 0 start
-  adding_starts = record { within = omega arith; size = refl; done = λ i h. absurd (omega arith); left = λ i from. refl }
-
-  pub adding_next : (s : ℕ) (column : List ℕ) → length start ≡ 17 → s < 16 → AddedBelow s column
-      → AddedBelow (s + 1) (set column s (get_or column s 0 + pick (holds field s) 1 0))
-  adding_next s column long h so =
-      record {
-        within = omega arith;
-        size = length-set column s _ ∙ so.size;
-        done = λ i below. split i (eqb i s) refl below;
-        left = λ i from. get_or-set_other column s i _ 0 (omega arith) ∙ so.left i (omega arith);
-      }
-    where
-      split : (i : ℕ) (t : Bool) → eqb i s ≡ t → i < s + 1
-          → get_or (set column s (get_or column s 0 + pick (holds field s) 1 0)) i 0 ≡ get_or start i 0 + pick (holds field i) 1 0
-      split i true e below =
-          rw (eqb-true i s e)
-          (get_or-set_same column s _ 0 (omega (arith, so.size)) ∙ ap (λ (n : ℕ). n + pick (holds field s) 1 0) (so.left s (omega arith)))
-      split i false e below =
-          let apart = eqb-false i s e in
-          get_or-set_other column s i _ 0 apart ∙ so.done i (omega (arith, apart))
-
-  pub adding_ends : (s : ℕ) (column : List ℕ) → length start ≡ 17 → 16 ≤ s → AddedBelow s column
+  pub adding_ends : (s : ℕ) (column : List ℕ) → length start ≡ 17 → s ≤ 16 → 16 ≤ s → AddedBelow s column
       → set column 16 (get_or column 16 0 + domain_count field) ≡ added start (field ∷ [])
   unfolding fields_holding ones_over
-  adding_ends s column long h so =
+  adding_ends s column long within h so =
       ext_get_or 0 (set column 16 _) (added start (field ∷ [])) (length-set column 16 _ ∙ so.size ∙ sym (length_added 0 start (field ∷ [])))
       (λ i below.
       let known : i < length start = omega (arith, length-set column 16 (get_or column 16 0 + domain_count field), so.size) in
@@ -58,7 +35,7 @@ module _ (start : List ℕ) (field : ℕ) where
           ≡ get_or (set column 16 (get_or column 16 0 + domain_count field)) i 0
       each i true e below =
           let last : i ≡ 16 = omega (arith, eqb-true (0 + i) 16 e) in
-          rw last (omega (arith, get_or-set_same column 16 (get_or column 16 0 + domain_count field) 0 (omega (arith, so.size)), so.left 16 (omega (arith, so.within))))
+          rw last (omega (arith, get_or-set_same column 16 (get_or column 16 0 + domain_count field) 0 (omega (arith, so.size)), so.left 16 within))
       each i false e below =
           let same : 0 + i ≡ i = omega arith in
           let apart : i ≡ 16 → ⊥ = λ last. eqb-false (0 + i) 16 e (same ∙ last) in

@@ -1,13 +1,16 @@
--- The images of an input, one after another: what stands at a place of the input, whole or cut, and what is left behind it; and a loop that adds them to a column.
+-- The images of an input, one after another: what stands first in what is left of it, whole or cut, and what is left behind it; and what they add to the sums.
 use Prim.Native.Nat.{ℕ, zero, suc, ◌+◌, ◌*◌, ◌≤◌, ◌<◌}
-use mathlib.Core.Path.{◌≡◌, refl, sym, ap, ◌∙◌}
-use mathlib.Core.Bool.{Bool, true, false}
+use mathlib.Core.Path.{◌≡◌, refl, ap, ◌∙◌}
+use mathlib.Core.Bool.{Bool, true, false, not}
 use mathlib.Core.List.{List, [], ◌∷◌}
+use native.Mathlib.Nat.{add-zero}
 use native.Mathlib.Omega.{arith}
-use borrow.Author.Tests.{le-leb, lt-leb, eqb-true}
+use borrow.Author.Tests.{le-leb, lt-leb, eqb-true, ne_eqb}
 use lib.Dec.{eqb}
-use lib.ListN.{length, get_or, take, drop, length-drop, drop_of_length-le}
-use lib.Seq.{drop-nil, drop-drop, get_or-drop}
+use lib.ListN.{length, get_or, take, drop, length-drop, length-take, drop_of_length-le}
+use lib.Seq.{drop-nil}
+use Rattle.std.proofs.Common.{append-nil, add_assoc}
+use Rattle.std.specs.Int.{from_bool}
 use Rattle.rules.specs.Refusals.{pick}
 use Rattle.machine.specs.Machine.{field_of, place_of}
 use Rattle.machine.specs.declared.record.Machine.{Machine}
@@ -16,11 +19,12 @@ use Rattle.image.specs.Description.{machine_of, pad}
 use Rattle.image.specs.Load.{load_of, describe, page_count, field_at, fields_of}
 use Rattle.image.proofs.Entries.{length_entries, entry_at, pad_at}
 use Rattle.image.proofs.Passed.{passed}
-use Rattle.rights.specs.Site.{Image, Whole, Cut, images_past, images_of, page_fields, fields_in, fields_over, refused_of}
-use Rattle.rights.specs.Adding.{added, Column}
+use Rattle.rights.specs.declared.Sums.{Sums}
+use Rattle.rights.specs.Site.{Image, Whole, Cut, images_past, images_of, loads, page_fields, fields_in, fields_over, refused_of}
+use Rattle.rights.specs.Adding.{with_images, Within, IsSplit, IsCut}
 use Rattle.rights.proofs.Added.{added_none, added_append, added_most, column_within}
 
--- ---- what stands at a place
+-- ---- what stands first
 
 -- past the bytes of the image before the next image stands
 past_drop : (n : ℕ) (left : List ℕ) → images_past n left ≡ images_of (drop n left)
@@ -48,23 +52,23 @@ first_whole (high ∷ low ∷ left) enough =
     let n = word_at (high ∷ low ∷ left) 0 in
     rw (le-leb n (length left) (omega arith), past_drop n left)
 
--- both, at a place of the input
-module _ (input : List ℕ) (at : ℕ) where
-  -- the length that stands there
-  declared : word_at (drop at input) 0 ≡ word_at input at
-  declared =
-      let here : at + 0 ≡ at = omega arith in
-      let next : at + 1 ≡ 1 + at = omega arith in
-      rw (get_or-drop at input 0 0, get_or-drop at input 1 0, here, next)
+-- both, for the image that stands first
+pub cut_first : (left : List ℕ) → length left < 2 + word_at left 0 → IsCut left
+unfolding images_past
+cut_first [] few = refl
+cut_first (byte ∷ []) few = refl
+cut_first (high ∷ low ∷ left) few =
+    rw (ne_eqb (length (high ∷ low ∷ left)) 0 (λ none. omega (arith, none))) (first_cut (high ∷ low ∷ left) (omega arith) few)
 
-  pub cut_at : at < length input → length input < at + 2 + word_at input at → images_of (drop at input) ≡ Cut ∷ []
-  cut_at some few =
-      first_cut (drop at input) (omega (arith, length-drop at input)) (omega (arith, length-drop at input, declared))
-
-  pub whole_at : at + 2 + word_at input at ≤ length input
-      → images_of (drop at input) ≡ Whole (take (word_at input at) (drop (at + 2) input)) ∷ images_of (drop (at + 2 + word_at input at) input)
-  whole_at enough =
-      rw (first_whole (drop at input) (omega (arith, length-drop at input, declared)), declared, drop-drop 2 at input, drop-drop (word_at input at) (at + 2) input)
+pub split_first : (left : List ℕ) {image rest : List ℕ} → 2 + word_at left 0 ≤ length left → image ≡ take (word_at left 0) (drop 2 left)
+    → rest ≡ drop (word_at left 0) (drop 2 left) → IsSplit left image rest
+split_first left enough front back =
+    let n = word_at left 0 in
+    rw (front, back)
+    record {
+      images = first_whole left enough;
+      sizes = omega (arith, length-take n (drop 2 left), length-drop n (drop 2 left), length-drop 2 left);
+    }
 
 -- ---- how many fields an image has
 
@@ -102,65 +106,44 @@ loaded_fields right bytes known loads =
     pad_at 0 256 (fields_of bytes) (place_of right (0 + page)) (omega (arith, facts.pages_most))
     ∙ entry_at 2 (field_at bytes) 0 22 (2 * page_count bytes) (place_of right (0 + page)) (omega arith)))
 
--- ---- a loop over images
+-- ---- images added one after another
 
-module _ (right : ℕ) (input start : List ℕ) where
-  -- what holds of a column before the image at a place: what the images that are left add gives the column that is promised, and no number is above four a byte
-  pub record Counting (at : ℕ) (column : List ℕ) : Type 0 where
-    pub most : Column (4 * at) column
-    pub rest : added column (fields_over right (images_of (drop at input))) ≡ added start (fields_over right (images_of input))
+-- sums are the same where all their parts are
+pub same_sums : {reads reads' writes writes' : List ℕ} {refused refused' : ℕ} → reads ≡ reads' → writes ≡ writes' → refused ≡ refused'
+    → let sums : Sums = record { reads = reads; writes = writes; refused = refused } in
+    let sums' : Sums = record { reads = reads'; writes = writes'; refused = refused' } in sums ≡ sums'
+same_sums a b c = rw (a, b, c)
 
-  pub counting_starts : Column 0 start → Counting 0 start
-  counting_starts none = record { most = column_within _ none (omega arith); rest = refl }
+pub images_then : (sums : Sums) (image : Image) (rest : List Image) → with_images (with_images sums (image ∷ [])) rest ≡ with_images sums (image ∷ rest)
+unfolding fields_over refused_of
+images_then sums image rest =
+    rw (append-nil (fields_in 0 image), append-nil (fields_in 1 image), added_append 0 sums.reads, added_append 0 sums.writes, add-zero, add_assoc)
 
-  -- a whole image, which ends where the next place is
-  pub counting_next : (at next : ℕ) (column bytes : List ℕ) {grown : List ℕ} → images_of (drop at input) ≡ Whole bytes ∷ images_of (drop next input)
-      → at + length bytes ≤ next → grown ≡ added column (fields_in right (Whole bytes)) → Counting at column → Counting next grown
-  unfolding fields_over
-  counting_next at next column bytes stands ends e so =
-      let fields = fields_in right (Whole bytes) in
-      rw e
-      record {
-        most = column_within _ (added_most (4 * at) column fields so.most) (omega (arith, fields_few right bytes));
-        rest =
-            added_append 0 column fields (fields_over right (images_of (drop next input)))
-            ∙ ap (λ (images : List Image). added column (fields_over right images)) (sym stands) ∙ so.rest;
-      }
-
-  counting_ends : (at : ℕ) (column : List ℕ) → fields_over right (images_of (drop at input)) ≡ [] → Counting at column
-      → column ≡ added start (fields_over right (images_of input))
-  counting_ends at column none so = sym (added_none 0 column) ∙ ap (λ (fields : List ℕ). added column fields) (sym none) ∙ so.rest
-
-  -- one that is cut, or none, adds nothing
-  pub counting_cut : (at : ℕ) (column : List ℕ) → images_of (drop at input) ≡ Cut ∷ [] → Counting at column
-      → column ≡ added start (fields_over right (images_of input))
-  unfolding fields_over fields_in
-  counting_cut at column cut so = counting_ends at column (rw cut) so
-
-  pub counting_over : (at : ℕ) (column : List ℕ) → length input ≤ at → Counting at column → column ≡ added start (fields_over right (images_of input))
-  unfolding fields_over images_past
-  counting_over at column over so = counting_ends at column (rw (drop_of_length-le input {i = at} over)) so
-
--- those refused so far and those refused among the images that are left are all
-module _ (input : List ℕ) (at refused : ℕ) (so : refused + refused_of (images_of (drop at input)) ≡ refused_of (images_of input)) where
-  pub refused_next : (next n : ℕ) (bytes : List ℕ) → images_of (drop at input) ≡ Whole bytes ∷ images_of (drop next input) → n ≡ refused_of (Whole bytes ∷ [])
-      → refused + n + refused_of (images_of (drop next input)) ≡ refused_of (images_of input)
-  unfolding refused_of
-  refused_next next n bytes stands e = omega (arith, e, ap refused_of stands, so)
-
-  pub refused_cut : images_of (drop at input) ≡ Cut ∷ [] → refused + 1 ≡ refused_of (images_of input)
-  unfolding refused_of
-  refused_cut cut = omega (arith, ap refused_of cut, so)
-
-  pub refused_over : length input ≤ at → refused ≡ refused_of (images_of input)
-  unfolding refused_of images_past
-  refused_over over = omega (arith, ap (λ (left : List ℕ). refused_of (images_of left)) (drop_of_length-le input {i = at} over), so)
-
--- an image is refused once at the most
-pub refused_one : (bytes : List ℕ) {n : ℕ} → n ≡ refused_of (Whole bytes ∷ []) → n ≤ 1
-unfolding refused_of
-refused_one bytes e = omega (arith, e, split (eqb (load_of bytes).number 0))
+-- no number grows by more than four for each byte of an image, and one
+pub images_most : (bound : ℕ) (sums : Sums) (bytes : List ℕ) → Within bound sums → Within (bound + 4 * length bytes + 1) (with_images sums (Whole bytes ∷ []))
+unfolding fields_over refused_of
+images_most bound sums bytes so =
+    rw (append-nil (fields_in 0 (Whole bytes)), append-nil (fields_in 1 (Whole bytes)))
+    record {
+      reads = column_within _ (added_most bound sums.reads (fields_in 0 (Whole bytes)) so.reads) (omega (arith, fields_few 0 bytes));
+      writes = column_within _ (added_most bound sums.writes (fields_in 1 (Whole bytes)) so.writes) (omega (arith, fields_few 1 bytes));
+      refused = omega (arith, so.refused, refused_one (loads (Whole bytes)));
+    }
   where
-    split : (t : Bool) → pick t 0 1 ≤ 1
-    split true = omega arith
-    split false = omega arith
+    refused_one : (b : Bool) → pick b 0 1 ≤ 1
+    refused_one true = omega arith
+    refused_one false = omega arith
+
+pub larger_within : {bound : ℕ} {sums : Sums} (larger : ℕ) → Within bound sums → bound ≤ larger → Within larger sums
+larger_within larger so h =
+    record { reads = column_within larger so.reads h; writes = column_within larger so.writes h; refused = omega (arith, so.refused) }
+
+-- what is left at the end adds no field, and one to those refused where it is not empty
+pub cut_last : (sums : Sums) (left : List ℕ) → IsCut left
+    → with_images sums (images_of left) ≡ record sums { refused = sums.refused + from_bool (not (eqb (length left) 0)) }
+unfolding fields_over fields_in refused_of
+cut_last sums left cut = rw cut (split (eqb (length left) 0))
+  where
+    split : (b : Bool) → with_images sums (pick b [] (Cut ∷ [])) ≡ record sums { refused = sums.refused + from_bool (not b) }
+    split true = rw (added_none 0 sums.reads, added_none 0 sums.writes)
+    split false = rw (added_none 0 sums.reads, added_none 0 sums.writes)

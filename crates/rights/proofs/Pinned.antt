@@ -7,6 +7,7 @@ use native.Mathlib.Omega.{arith}
 use lib.Bits.{bit_and}
 use lib.Dec.{eqb, leb, ltb}
 use lib.ListN.{length, get_or, replicate, set, take}
+use Rattle.std.specs.Prelude.{None, Some}
 use Rattle.rules.specs.Domains.{domain_bit, domain_count}
 use Rattle.rules.specs.Refusals.{pick}
 use Rattle.machine.specs.Machine.{field_of}
@@ -15,6 +16,8 @@ use Rattle.image.specs.Description.{machine_of}
 use Rattle.image.specs.Load.{load_of, load_checks, length_tests, kind_tests, shape_entry_tests, shape_tests, body_tests, describe}
 use Rattle.image.specs.Sample.{sample_bytes}
 use Rattle.image.proofs.Entries.{length_entries, entry_at}
+use Rattle.rights.specs.declared.Sums.{Sums}
+use Rattle.rights.specs.Counted.{counted_as}
 use Rattle.rights.specs.Site.{Image, Whole, Cut, images_past, images_of, loads, page_fields, fields_in, fields_over, fields_holding, sum_below, ones_over, refused_of, is_long, counted_of}
 
 -- RULES 13.2: inputs without an image, with empty ones, whole ones and one that is cut, by both bytes of a length
@@ -133,3 +136,9 @@ pub sites_counted :
     × (counted_of (5 ∷ []) ≡ record { long = false; reads = replicate 17 0; writes = replicate 17 0; refused = 1 })
 unfolding counted_of images_past fields_holding fields_in fields_over sum_below refused_of domain_bit load_of load_checks length_tests kind_tests shape_entry_tests shape_tests body_tests describe machine_of sample_bytes
 sites_counted = (refl, refl, refl, refl)
+
+-- RULES 13.8: what each answer says of an input
+pub answer_counted : (sums : Sums)
+    → (counted_as None ≡ record { long = true; reads = replicate 17 0; writes = replicate 17 0; refused = 0 })
+    × (counted_as (Some sums) ≡ record { long = false; reads = sums.reads; writes = sums.writes; refused = sums.refused })
+answer_counted sums = (refl, refl)

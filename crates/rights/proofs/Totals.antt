@@ -1,13 +1,13 @@
 -- The total of a right is the number of set bits in all fields: counted domain by domain it is the same as counted field by field. By induction on the fields.
-use Prim.Native.Nat.{ℕ, zero, suc}
+use Prim.Native.Nat.{ℕ}
 use mathlib.Core.Path.{◌≡◌, refl}
 use mathlib.Core.List.{List, [], ◌∷◌}
 use native.Mathlib.Nat.{zero-add}
 use native.Mathlib.Omega.{arith}
-use lib.ListN.{get_or, replicate}
+use lib.ListN.{replicate}
 use Rattle.rules.proofs.Counted.{count_each}
 use Rattle.rights.specs.Site.{Image, fields_holding, sum_below, fields_over, total_of, column_of, ones_over}
-use Rattle.rights.specs.Adding.{added_from, added, Column}
+use Rattle.rights.specs.Adding.{added_from, added}
 
 -- counted domain by domain
 fields_ones : (fields : List ℕ) → sum_below 16 (λ s. fields_holding s fields) ≡ ones_over fields
@@ -23,12 +23,3 @@ total_ones right images = fields_ones (fields_over right images)
 pub column_counted : (right : ℕ) (images : List Image) → added (replicate 17 0) (fields_over right images) ≡ column_of right images
 unfolding added_from
 column_counted right images = rw (total_ones right images) (simp zero-add)
-
--- a column of zeros is one
-pub zeros : Column 0 (replicate 17 0)
-zeros = record { places = refl; most = λ place. omega (arith, none 17 place) }
-  where
-    none : (n place : ℕ) → get_or {A = ℕ} (replicate n 0) place 0 ≡ 0
-    none zero place = refl
-    none (suc n) zero = refl
-    none (suc n) (suc place) = none n place

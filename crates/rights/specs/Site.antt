@@ -6,7 +6,7 @@ use Rattle.machine.specs.Machine.{field_of}
 use Rattle.machine.specs.declared.record.Machine.{Machine}
 use Rattle.image.specs.Bytes.{word_of, entries}
 use Rattle.image.specs.Load.{load_of}
-use Rattle.rights.specs.declared.Counted.{Counted}
+use Rattle.rights.specs.Counted.{Counted}
 
 -- RULES 13.2: an image of an input, which is whole or cut
 pub data Image : Type 0 where

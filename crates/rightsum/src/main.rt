@@ -6,6 +6,7 @@ use input::read_full;
 use std::io;
 
 fn main(rt: HostRuntime) -> io::Result<()> {
+    // Buffers of fixed size with a length beside them, since there is no heap: one byte more than is taken of an input, and room for every text.
     let mut input = [0u8; 32769];
     let mut text = [0u8; 512];
     let got = read_full(&mut rt.stdin(), &mut input)?;

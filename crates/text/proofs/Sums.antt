@@ -8,14 +8,13 @@ use native.Mathlib.Omega.{arith}
 use borrow.Author.Tests.{lt-ltb, le-ltb}
 use lib.Dec.{leb}
 use lib.ListN.{length, get_or, length-append}
-use lib.Seq.{sets}
 use Rattle.rules.specs.Refusals.{pick}
 use Rattle.rights.specs.Site.{Image, images_of, rights_held, total_of, refused_of, is_long, counted_of}
 use Rattle.text.specs.Text.{letters, decimal_of, column}
 use Rattle.text.specs.Rights.{sum_of}
 use Rattle.text.specs.Rights.{sums_of, domain_lines, total_line, refused_line, numbers_text, images_text, rights_text, printed_rights}
 use Rattle.text.specs.Put.{Put}
-use Rattle.text.proofs.Puts.{decimal_most, leading_most, put_rest}
+use Rattle.text.proofs.Puts.{decimal_most, leading_most}
 
 pub sum_most : (n : ℕ) → length (column (sum_of n)) ≤ 7
 sum_most n = simp length-append (omega (arith, leading_most n 100000, decimal_most n))
@@ -42,16 +41,11 @@ module _ (reads writes : ℕ → ℕ) where
   domains_most s (suc n) =
       omega (arith, length-append (decimal_of s ++ sums_of (reads s) (writes s)) (domain_lines reads writes (suc s) n), domain_most s (reads s) (writes s), domains_most (suc s) n)
 
-  -- a turn of the loop over the domains: the line of domain s, put, and the lines of those past it, put behind it, are the lines of the domains from s on
-  pub turn_domain : (s : ℕ) {out out' : List ℕ} {to to' : ℕ} → s < 16 → Put out to (decimal_of s ++ sums_of (reads s) (writes s)) out' to'
-      → let rest = domain_lines reads writes (s + 1) (16 - (s + 1)) in
-      let all = domain_lines reads writes s (16 - s) in
-      (sets out' to' rest ≡ sets out to all) × (to' + length rest ≡ to + length all)
+  -- the lines of the domains from s on are the line of domain s and those past it
+  pub domains_next : (s : ℕ) → s < 16
+      → domain_lines reads writes s (16 - s) ≡ (decimal_of s ++ sums_of (reads s) (writes s)) ++ domain_lines reads writes (s + 1) (16 - (s + 1))
   unfolding domain_lines
-  turn_domain s h line =
-      let some : 16 - s ≡ suc (16 - (s + 1)) = omega arith in
-      let rest = domain_lines reads writes (suc s) (16 - suc s) in
-      rw (some, add-one) (put_rest rest line, omega (arith, line.next, length-append (decimal_of s ++ sums_of (reads s) (writes s)) rest))
+  domains_next s h = let some : 16 - s ≡ suc (16 - (s + 1)) = omega arith in rw (some, add-one)
 
 -- the text from what is counted
 pub counted_text : (input : List ℕ) → is_long input ≡ false

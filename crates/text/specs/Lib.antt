@@ -1,3 +1,4 @@
 pub mod Text
 pub mod Rights
 pub mod Put
+pub mod Writing

@@ -1,34 +1,15 @@
 -- `rights::add_field` meets its contract: each turn of the loop adds one domain, and the total comes last.
-use Rattle.std.proofs.Common.{rules, arith, Bool, true, false, ◌≤◌}
-use Rattle.rules.specs.Domains.{holds}
-use Rattle.rules.specs.Refusals.{pick}
+use Rattle.std.proofs.Common.{rules, arith}
 use Rattle.rules.proofs.Counted.{counted_most}
-use Rattle.rights.proofs.Field.{adding_starts, adding_next, adding_ends}
+use Rattle.rights.proofs.Field.{adding_ends}
 use Rattle.rights.proofs.add_field.Goals as goal
-
-pub loop-s-init : goal.loop-s-init
-loop-s-init c = adding_starts c.args.column.now c.args.field
-
-pub overflow_add-column : goal.overflow_add-column
-overflow_add-column c =
-    let l = c.loop-s in
-    omega (arith, c.requires.most l.s, l.invariant.left l.s (omega arith), c.held.ensures, one (holds c.args.field l.s))
-  where
-    one : (b : Bool) → pick b 1 0 ≤ 1
-    one true = omega arith
-    one false = omega arith
-
-pub loop-s-preserved : goal.loop-s-preserved
-loop-s-preserved c =
-    let l = c.loop-s in
-    rw c.held.ensures (adding_next c.args.column.now c.args.field l.s l.column c.requires.places (search rules) l.invariant)
 
 pub overflow_add-column-2 : goal.overflow_add-column-2
 overflow_add-column-2 c =
     let l = c.loop-s in
-    omega (arith, c.requires.most 16, l.invariant.left 16 l.invariant.within, c.domain_count.ensures, counted_most 16 c.args.field)
+    omega (arith, c.requires.most 16, l.invariant.left 16 l.auto.s-end, c.domain_count.ensures, counted_most 16 c.args.field)
 
 pub returns : goal.returns
 returns c =
     let l = c.loop-s in
-    rw c.domain_count.ensures (adding_ends c.args.column.now c.args.field l.s l.column c.requires.places (search rules) l.invariant)
+    rw c.domain_count.ensures (adding_ends c.args.column.now c.args.field l.s l.column c.requires.places l.auto.s-end (search rules) l.invariant)

@@ -14,11 +14,10 @@ loop-page-preserved c =
     let a = c.args in
     let read : ℕ → ℕ = λ p. field_at a.bytes.now (22 + 2 * place_of a.right p) in
     let grown = c.add_field.ensures ∙ ap (λ (field : ℕ). added l.column (field ∷ [])) c.field_at.ensures in (
-      search rules,
-      rw grown (column_within _ (added_most (1000000 + 16 * l.page) l.column (read l.page ∷ []) l.invariant.1) (omega arith)),
+      rw grown (column_within _ (added_most (1000000 + 16 * l.page) l.column (read l.page ∷ []) l.invariant.0) (omega arith)),
       rw grown
           (added_append 0 l.column (read l.page ∷ []) (entries 1 read (l.page + 1) (a.pages - (l.page + 1)))
-          ∙ ap (λ (fields : List ℕ). added l.column fields) (sym (fields_next read l.page a.pages (search rules))) ∙ l.invariant.2),
+          ∙ ap (λ (fields : List ℕ). added l.column fields) (sym (fields_next read l.page a.pages (search rules))) ∙ l.invariant.1),
     )
 
 pub returns : goal.returns
@@ -27,4 +26,4 @@ returns c =
     let a = c.args in
     let read : ℕ → ℕ = λ p. field_at a.bytes.now (22 + 2 * place_of a.right p) in
     sym (added_none 0 l.column) ∙ ap (λ (fields : List ℕ). added l.column fields) (sym (left_none 1 read a.pages l.page l.page (search rules)))
-    ∙ l.invariant.2
+    ∙ l.invariant.1

@@ -1,7 +1,8 @@
--- `text::text_of` meets its contract: the tests on the buffer and on the input say which text it is.
-use borrow.Author.Tests.{le-leb, lt-leb, lt-ltb, le-ltb}
+-- `text::text_of` meets its contract: the test on the buffer says whether there is a text.
+use borrow.Author.Tests.{le-leb, lt-leb}
+use borrow.Author.Rules.{rules}
 use lib.ListN.{length}
-use Rattle.text.specs.Text.{printed, text_of}
+use Rattle.text.specs.Text.{printed}
 use Rattle.text.proofs.Puts.{put_none}
 use Rattle.text.proofs.text_of.Goals as goal
 
@@ -11,12 +12,6 @@ returns-then-out-lt100000 c =
     let out = c.args.out.now in
     rw (lt-leb 100000 (length out) c.if-out-lt100000.true) (put_none out 0)
 
-pub returns-then-input-gt32768 : goal.returns-then-input-gt32768
-unfolding printed text_of
-returns-then-input-gt32768 c =
-    rw (le-leb _ _ c.if-out-lt100000.false, lt-ltb _ _ c.if-input-gt32768.true) c.put_bytes.ensures
-
 pub returns : goal.returns
-unfolding printed text_of
-returns c =
-    rw (le-leb _ _ c.if-out-lt100000.false, le-ltb _ _ c.if-input-gt32768.false) c.put_run.ensures
+unfolding printed
+returns c = rw (le-leb _ _ c.if-out-lt100000.false) (search rules)
