@@ -1,7 +1,9 @@
 -- What a loop over a list finds at its next place: of a test, of the numbers of pairs, of what pairs need. From the list's head.
 use Prim.Native.Nat.{ℕ, suc, ◌+◌, ◌<◌, ◌≤◌}
 use mathlib.Core.Path.{◌≡◌, refl, sym, ap, ◌∙◌}
-use mathlib.Core.Bool.{Bool, true, false, not, ◌||◌}
+use mathlib.Core.Bool.{Bool, true, false, not, ◌||◌, or-false}
+use Rattle.std.proofs.Math.Bool.{or_assoc}
+use Rattle.std.specs.List.{fold}
 use mathlib.Core.List.{List, [], ◌∷◌, ◌++◌, map, map-append, append_assoc}
 use native.Mathlib.Numerals.{add-one}
 use native.Mathlib.Omega.{arith}
@@ -13,8 +15,10 @@ use Rattle.machine.specs.Machine.{is_right}
 use Rattle.machine.specs.Calls.{any}
 use Rattle.masks.specs.Least.{right_of, page_in, pair_checks}
 
-pub any_next : (p : ℕ → Bool) (list : List ℕ) (i : ℕ) → i < length list → any p (drop i list) ≡ p (get_or list i 0) || any p (drop (i + 1) list)
-any_next p list i below = rw (add-one, drop-cons list i 0)
+-- a fold that keeps whether some number so far passes finds whether any does
+pub any_folded : (p : ℕ → Bool) (some : Bool) (list : List ℕ) → fold (λ found n. found || p n) some list ≡ some || any p list
+any_folded p some [] = sym (or-false some)
+any_folded p some (n ∷ list) = any_folded p (some || p n) list ∙ or_assoc some (p n) (any p list)
 
 -- the number of the first bad pair, or else of what is asked after them
 pub pairs_then : (pages : ℕ) (pairs : List ℕ) (more : List Check)

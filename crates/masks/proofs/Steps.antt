@@ -20,7 +20,7 @@ use Rattle.rules.proofs.Laws.{no_domain_held}
 use Rattle.rules.proofs.Lowest.{granted_holds, held_digit, held_either, none_shared, one_shared, revoked_holds}
 use Rattle.machine.specs.Calls.{any}
 use Rattle.masks.specs.Least.{is_less, masks_from, masks_within, passing, least_of}
-use Rattle.masks.specs.Search.{is_unmet, meets_all, last_domain, least_from}
+use Rattle.masks.specs.Search.{needed_mask, refused_by, is_unmet, meets_all, last_domain, least_from}
 use Rattle.masks.proofs.Order.{before_further, less_not, not_less, least_alike, least_kept, least_further, passing_further, passing_in, in_passing, passing_none}
 use Rattle.masks.proofs.Within.{Within, either_left, either_right, empty_holds, within_before, looked_within, looked_above, looked_fits, looked_all}
 
@@ -217,3 +217,13 @@ none_exactly needs context small = split (any (is_unmet context) needs) refl
     split true e =
         rw (none_meets_all needs context 0 (omega arith) (subst (λ (set : ℕ). any (is_unmet set) needs ≡ true) (sym (or_zero_l context)) e))
     split false e = some (passing (meets_all needs) (masks_within context)) (context_meets needs context small e)
+
+-- so what is given for these needs is 34, or the mask to which the search from the context comes
+pub needed_none : (needs : List ℕ) (context : ℕ) → context < 65536 → any (is_unmet context) needs ≡ true → needed_mask needs context ≡ refused_by 34
+unfolding needed_mask
+needed_none needs context small unmet = rw (none_exactly needs context small, unmet)
+
+pub needed_found : (needs : List ℕ) (context : ℕ) → context < 65536 → any (is_unmet context) needs ≡ false
+    → needed_mask needs context ≡ record { number = 0; mask = least_from needs context 0 context }
+unfolding needed_mask
+needed_found needs context small met = rw (from_context needs context small met, none_exactly needs context small, met)
