@@ -1,9 +1,7 @@
 -- What a loop over a list finds at its next place: of a test, of the numbers of pairs, of what pairs need. From the list's head.
 use Prim.Native.Nat.{ℕ, suc, ◌+◌, ◌<◌, ◌≤◌}
 use mathlib.Core.Path.{◌≡◌, refl, sym, ap, ◌∙◌}
-use mathlib.Core.Bool.{Bool, true, false, not, ◌||◌, or-false}
-use Rattle.std.proofs.Math.Bool.{or_assoc}
-use Rattle.std.specs.List.{fold}
+use mathlib.Core.Bool.{Bool, true, false, not}
 use mathlib.Core.List.{List, [], ◌∷◌, ◌++◌, map, map-append, append_assoc}
 use native.Mathlib.Numerals.{add-one}
 use native.Mathlib.Omega.{arith}
@@ -12,13 +10,7 @@ use lib.ListN.{length, get_or, set, take, drop, length-append, length-map, lengt
 use lib.Seq.{drop-cons, set_at, take-suc}
 use Rattle.rules.specs.Refusals.{Check, ◌⇒◌, first, pick}
 use Rattle.machine.specs.Machine.{is_right}
-use Rattle.machine.specs.Calls.{any}
 use Rattle.masks.specs.Least.{right_of, page_in, pair_checks}
-
--- a fold that keeps whether some number so far passes finds whether any does
-pub any_folded : (p : ℕ → Bool) (some : Bool) (list : List ℕ) → fold (λ found n. found || p n) some list ≡ some || any p list
-any_folded p some [] = sym (or-false some)
-any_folded p some (n ∷ list) = any_folded p (some || p n) list ∙ or_assoc some (p n) (any p list)
 
 -- the number of the first bad pair, or else of what is asked after them
 pub pairs_then : (pages : ℕ) (pairs : List ℕ) (more : List Check)

@@ -73,18 +73,26 @@ fn store_needs(needs: &mut [u16], machine: &Machine, pairs: &[u32])
     }
 }
 
-// A set of domains leaves some need unmet. Every need is looked at, so that the compiler asks many at once (docs/PERFORMANCE.md).
+// A set of domains leaves some need unmet. Every need is looked at, so that the compiler asks many at once (docs/PERFORMANCE.md): `any` would stop at the first, and
+// a `fold`, which is proved too, costs five of a hundred instructions more, since it keeps the ends of the slice over each turn of the search.
 fn any_unmet(needs: &[u16], set: u16) -> bool
     ensures { result ≡ any (is_unmet set) needs.now }
 {
-    needs.iter().fold(false, |some, need| some | (*need & set == 0))
+    let mut some = false;
+    for need in needs {
+        some |= *need & set == 0;
+    }
+    some
 }
 
-// One mask is less than another: it has fewer domains, or as many and is the smaller number (RULES 12.3).
+// One mask is less than another: it has fewer domains, or as many and is the smaller number (RULES 12.3). The two compared as pairs, `(count, one) < (others, other)`,
+// are proved too, and cost each turn of the search two instructions more: 2.4 of a hundred for the dearest list.
 fn is_less(one: u16, other: u16) -> bool
     ensures { result ≡ is_less one other }
 {
-    (domain_count(one), one) < (domain_count(other), other)
+    let count = domain_count(one);
+    let others = domain_count(other);
+    count < others || (count == others && one < other)
 }
 
 // The domain of greatest number in a set; 0 where it is empty.
