@@ -10,15 +10,18 @@ use lib.Dec.{eqb, ltb}
 use lib.ListN.{length}
 use native.Mathlib.Omega.{arith}
 use Rattle.rules.specs.Refusals.{pick}
+use Rattle.machine.specs.Calls.{any}
 use Rattle.planner.specs.Ancestors.{Ancestor, is_ancestor}
-use Rattle.planner.specs.Plan.{each, set_below, global_context, contexts_of}
+use Rattle.planner.specs.Plan.{Planned, each, set_below, global_context, contexts_of, is_count, is_missing, plan_of}
 use Rattle.planner.specs.Ways.{ends, marked}
 use Rattle.planner.proofs.Ancestry.{ancestry_told, either, alike}
 use Rattle.planner.proofs.Each.{each_same, pad_each}
 use Rattle.planner.proofs.Forests.{someones_parent}
-use Rattle.planner.proofs.Found.{Listed, own_place, not_found}
+use Rattle.planner.proofs.Found.{Listed, listed_by, own_place, cycle_found, never, not_found}
+use Rattle.planner.proofs.Numbers.{refused_by, planned_cycle}
+use Rattle.planner.proofs.Plans.{planned_free}
 use Rattle.planner.proofs.Sets.{set_same, set_more}
-use Rattle.planner.proofs.Ways.{on_way, marked_each, way_exactly}
+use Rattle.planner.proofs.Ways.{on_way, marked_each, own_endless, endless_own, way_exactly}
 
 -- a is j or an ancestor of it
 abbrev pub within : List ℕ → (a j : ℕ) → Bool
@@ -72,3 +75,18 @@ module _ (list : List ℕ) (listed : Listed list) where
       place a false e =
           let size : 0 + n ≡ n = omega arith in
           set_same n (within list a) (λ s. false) (none_within a (ltb-false a n e)) ∙ (rw size at (set_more 0 n (λ s. false) (λ s _. refl)))
+
+-- so where neither 30 nor 31 is due, a way that leads round refuses the plan with 32, and where every way ends the plan has what is gathered of all contexts
+module _ (list : List ℕ) (count : is_count (length list) ≡ true) (there : any (is_missing (length list)) list ≡ false) where
+  listed : Listed list
+  listed = listed_by list count there
+
+  pub planned_round : (k : ℕ) → ends list (length list) k ≡ false → plan_of list ≡ refused_by 32
+  planned_round k endless =
+      planned_cycle list (is_ancestor list) count there ((cycle_found list).1 (endless_own list listed.few listed.there k endless))
+
+  pub planned_ways : (sets : List ℕ) → sets ≡ gathered list (length list) → ((k : ℕ) → k < length list → ends list (length list) k ≡ true)
+      → plan_of list ≡ record { number = 0; contexts = sets }
+  planned_ways sets all end =
+      planned_free list listed (λ k way. never (own_endless list (length list) k way) (end k (own_place list way)))
+      ∙ rw (all, all_gathered list listed)

@@ -11,8 +11,7 @@ use Rattle.rules.specs.Refusals.{pick}
 use Rattle.machine.specs.Calls.{any}
 use Rattle.image.specs.Description.{pad}
 use Rattle.planner.specs.Ancestors.{is_parent, Ancestor, parent, above, reaches}
-use Rattle.planner.specs.Plan.{each, set_below, set_of, plan_checks, planned_of, plan_of}
-use Rattle.planner.specs.declared.Planned.{Planned}
+use Rattle.planner.specs.Plan.{Planned, each, set_below, set_of, plan_checks, planned_of, plan_of}
 use Rattle.planner.proofs.Ancestry.{ancestry_told}
 use Rattle.planner.proofs.Found.{never}
 use Rattle.planner.proofs.Rings.{row, ring}

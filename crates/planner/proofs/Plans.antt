@@ -18,8 +18,7 @@ use Rattle.machine.specs.Machine.{no_program}
 use Rattle.image.specs.Description.{Description, Shaped, Legal}
 use Rattle.image.proofs.Entries.{length_pad, pad_at, pad_past}
 use Rattle.planner.specs.Ancestors.{is_parent, Ancestor, parent, above, Tells, is_ancestor}
-use Rattle.planner.specs.Plan.{each, global_context, contexts_of, is_count, is_missing, planned_of, plan_of}
-use Rattle.planner.specs.declared.Planned.{Planned}
+use Rattle.planner.specs.Plan.{Planned, each, global_context, contexts_of, is_count, is_missing, planned_of, plan_of}
 use Rattle.planner.proofs.Ancestry.{ancestry_told, has_place, told_alike, either}
 use Rattle.planner.proofs.Each.{each_at, each_length}
 use Rattle.planner.proofs.Forests.{on_one_way}
