@@ -1,13 +1,12 @@
 -- Lists of what belongs to each number below a count: what stands at a place, and how a loop fills and alters them. By the list's elements.
-use Prim.Native.Nat.{ℕ, zero, suc, ◌+◌, ◌<◌, ◌≤◌}
+use Prim.Native.Nat.{ℕ, zero, suc, ◌<◌}
 use mathlib.Core.Path.{◌≡◌, refl, sym, ap, ◌∙◌}
 use mathlib.Core.Bool.{Bool, true, false}
 use mathlib.Core.List.{List, [], ◌∷◌}
 use borrow.Author.Tests.{ltb-true, ltb-false}
 use lib.Dec.{eqb, ltb, eqb-zero-suc, eqb-suc-zero, eqb-suc-suc}
-use lib.ListN.{length, get_or, set, drop, drop_of_length-le, get_or-eq_default}
-use lib.Seq.{drop-cons, ext_get_or}
-use native.Mathlib.Numerals.{add-one}
+use lib.ListN.{length, get_or, set, get_or-eq_default}
+use lib.Seq.{ext_get_or}
 use native.Mathlib.Omega.{arith}
 use Rattle.std.specs.List.{list_any}
 use Rattle.rules.specs.Refusals.{pick}

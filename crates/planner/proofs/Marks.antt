@@ -12,7 +12,7 @@ use native.Mathlib.Omega.{arith}
 use Rattle.rules.specs.Refusals.{pick}
 use Rattle.machine.specs.Calls.{any}
 use Rattle.planner.specs.Ancestors.{Ancestor, is_ancestor}
-use Rattle.planner.specs.Plan.{Planned, each, set_below, global_context, contexts_of, is_count, is_missing, plan_of}
+use Rattle.planner.specs.Plan.{each, set_below, global_context, contexts_of, is_count, is_missing, plan_of}
 use Rattle.planner.specs.Ways.{ends, marked}
 use Rattle.planner.proofs.Ancestry.{ancestry_told, either, alike}
 use Rattle.planner.proofs.Each.{each_same, pad_each}

@@ -13,13 +13,6 @@ use rules::domains::with_bit;
 // What stands in a list for a context that has no parent (RULES 11.1). A list is bytes from outside, one a context, so a number stands for none there.
 pub const NO_PARENT: u8 = 255;
 
-// There is one context at least, and a domain for each.
-fn count_holds(count: usize) -> bool
-    ensures { result ≡ is_count count }
-{
-    (1..=16).contains(&count)
-}
-
 // A parent is none of so many contexts.
 fn is_missing(parent: u8, count: usize) -> bool
     ensures { result ≡ is_missing count parent }
@@ -78,7 +71,8 @@ pub fn plan(parents: &[u8]) -> Result<[u16; 16], Refusal>
     ensures number { number_of result ≡ (plan_of parents.now).number }
     ensures contexts { given_or (replicate 16 0) result ≡ (plan_of parents.now).contexts }
 {
-    if !count_holds(parents.len()) {
+    // One context at least, and a domain for each (RULES 11.4).
+    if parents.is_empty() || 16 < parents.len() {
         return Err(Refusal::WrongCount);
     }
     if any_missing(parents) {
