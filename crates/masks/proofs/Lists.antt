@@ -44,9 +44,6 @@ stored_next done list v i long below =
 
 -- what the pairs so far need stands before the rest of a list, and the next goes after it
 module _ (need : ℕ → ℕ) (pairs list : List ℕ) (i : ℕ) where
-  pub needs_long : i ≤ length pairs → length pairs ≤ length list → length (map need (take i pairs) ++ drop i list) ≡ length list
-  needs_long within room = simp (length-append, length-map, length-take, length-drop) (omega arith)
-
   pub needs_next : i < length pairs → length pairs ≤ length list
       → set (map need (take i pairs) ++ drop i list) i (need (get_or pairs i 0)) ≡ map need (take (i + 1) pairs) ++ drop (i + 1) list
   needs_next below room =

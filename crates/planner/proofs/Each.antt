@@ -52,12 +52,6 @@ module _ {A : Type 0} where
           rw (pad_at z n (each m of) k below, each_at z n (λ k. pick (ltb k m) (of k) z) k below, e)
           (get_or-eq_default (each m of) z (rw (each_length m of) (ltb-false k m e)))
 
--- what stands at a place of a list does not depend on what is read past its end
-pub get_or_known : (l : List ℕ) (i a b : ℕ) → i < length l → get_or l i a ≡ get_or l i b
-get_or_known [] i a b h = absurd (omega arith)
-get_or_known (x ∷ l) zero a b h = refl
-get_or_known (x ∷ l) (suc i) a b h = get_or_known l i a b (omega arith)
-
 -- std's word for a test of some element says what this repository's does
 pub any_listed : (p : ℕ → Bool) (l : List ℕ) → list_any p l ≡ any p l
 any_listed p [] = refl

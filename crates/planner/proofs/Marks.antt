@@ -9,15 +9,16 @@ use borrow.Author.Tests.{eqb-true, eq-eqb, ltb-true, ltb-false}
 use lib.Dec.{eqb, ltb}
 use lib.ListN.{length}
 use native.Mathlib.Omega.{arith}
+use Rattle.std.proofs.lemmas.Bool.{or_cases, false_from_ne_true, both_ways}
 use Rattle.rules.specs.Refusals.{pick}
 use Rattle.machine.specs.Calls.{any}
 use Rattle.planner.specs.Ancestors.{Ancestor, is_ancestor}
 use Rattle.planner.specs.Plan.{each, set_below, global_context, contexts_of, is_count, is_missing, plan_of}
 use Rattle.planner.specs.Ways.{ends, marked}
-use Rattle.planner.proofs.Ancestry.{ancestry_told, either, alike}
+use Rattle.planner.proofs.Ancestry.{ancestry_told, alike}
 use Rattle.planner.proofs.Each.{each_same, pad_each}
 use Rattle.planner.proofs.Forests.{someones_parent}
-use Rattle.planner.proofs.Found.{Listed, listed_by, own_place, cycle_found, never, not_found}
+use Rattle.planner.proofs.Found.{Listed, listed_by, own_place, cycle_found}
 use Rattle.planner.proofs.Numbers.{refused_by, planned_cycle}
 use Rattle.planner.proofs.Plans.{planned_free}
 use Rattle.planner.proofs.Sets.{set_same, set_more}
@@ -33,7 +34,7 @@ gathered list k = each 16 (λ a. set_below k (within list a))
 
 module _ (list : List ℕ) (listed : Listed list) where
   within_so : (a j : ℕ) → within list a j ≡ true → (j ≡ a) ⊎ Ancestor list a j
-  within_so a j so = ⊎_map (eqb-true j a) (ancestry_told list a j).0 (either (eqb j a) (is_ancestor list a j) so)
+  within_so a j so = ⊎_map (eqb-true j a) (ancestry_told list a j).0 (or_cases (eqb j a) (is_ancestor list a j) so)
 
   -- the contexts on a way that ends are these
   on_within : (k a : ℕ) → k < length list → ends list (length list) k ≡ true → on_way list (length list) k a ≡ within list a k
@@ -60,12 +61,12 @@ module _ (list : List ℕ) (listed : Listed list) where
       -- a context of the list has no descendant past it
       none_past : (a : ℕ) → a < n → (s : ℕ) → n ≤ s → within list a s ≡ false
       none_past a below s past =
-          not_found _ (λ so. ⊎_elim (λ same. omega arith) (λ way. omega (arith, own_place list way)) (within_so a s so))
+          false_from_ne_true _ (λ so. ⊎_elim (λ same. omega arith) (λ way. omega (arith, own_place list way)) (within_so a s so))
 
       -- and what is no context has none in it
       none_within : (a : ℕ) → n ≤ a → (s : ℕ) → s < n → within list a s ≡ false
       none_within a past s below =
-          not_found _ (λ so.
+          false_from_ne_true _ (λ so.
           ⊎_elim (λ same. omega arith) (λ way. let child = someones_parent list way in omega (arith, listed.there a child.0 child.1)) (within_so a s so))
 
       place : (a : ℕ) (b : Bool) → ltb a n ≡ b → set_below n (within list a) ≡ pick b (global_context (is_ancestor list) a) 0
@@ -88,5 +89,5 @@ module _ (list : List ℕ) (count : is_count (length list) ≡ true) (there : an
   pub planned_ways : (sets : List ℕ) → sets ≡ gathered list (length list) → ((k : ℕ) → k < length list → ends list (length list) k ≡ true)
       → plan_of list ≡ record { number = 0; contexts = sets }
   planned_ways sets all end =
-      planned_free list listed (λ k way. never (own_endless list (length list) k way) (end k (own_place list way)))
+      planned_free list listed (λ k way. both_ways _ (own_endless list (length list) k way) (end k (own_place list way)))
       ∙ rw (all, all_gathered list listed)

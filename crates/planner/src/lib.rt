@@ -52,8 +52,8 @@ fn mark_way(parents: &[u8], contexts: &mut [u16; 16], context: u16) -> Result<()
 // The contexts of a list that neither 30 nor 31 refuses.
 #[tactic(auto, using(crate::proofs::Marks::one_way_more, crate::proofs::Marks::planned_round, crate::proofs::Marks::planned_ways))]
 fn plan_ways(parents: &[u8]) -> Result<[u16; 16], Refusal>
-    requires parents_value { is_count (length parents.now) ≡ true }
-    requires parents_value_2 { any (is_missing (length parents.now)) parents.now ≡ false }
+    requires counted { is_count (length parents.now) ≡ true }
+    requires there { any (is_missing (length parents.now)) parents.now ≡ false }
     ensures number { number_of result ≡ (plan_of parents.now).number }
     ensures contexts { given_or (replicate 16 0) result ≡ (plan_of parents.now).contexts }
 {

@@ -26,6 +26,6 @@ loop-context-preserved c =
     let end : ends list (length list) at ≡ true = grind arith in record {
       holds_them =
           c.mark_way.ensures.contexts_after
-          ∙ rw (c.loop-context.invariant.holds_them, add-one) (one_way_more list (listed_by list c.requires.parents_value c.requires.parents_value_2) at (omega arith) end);
+          ∙ rw (c.loop-context.invariant.holds_them, add-one) (one_way_more list (listed_by list c.requires.counted c.requires.there) at (omega arith) end);
       all_end = below_more _ at c.loop-context.invariant.all_end end;
     }
