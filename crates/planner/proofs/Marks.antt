@@ -7,7 +7,8 @@ use mathlib.Core.List.{List}
 use mathlib.Core.Logic.{◌⊎◌, ⊎_elim, ⊎_map}
 use borrow.Author.Tests.{eqb-true, eq-eqb, ltb-true, ltb-false}
 use lib.Dec.{eqb, ltb}
-use lib.ListN.{length}
+use lib.ListN.{length, replicate}
+use native.Mathlib.Numerals.{add-one}
 use native.Mathlib.Omega.{arith}
 use Rattle.std.proofs.lemmas.Bool.{or_cases, false_from_ne_true, both_ways}
 use Rattle.rules.specs.Refusals.{pick}
@@ -31,6 +32,11 @@ within list a j = eqb j a || is_ancestor list a j
 -- what is gathered of the first k contexts
 abbrev pub gathered : List ℕ → (k : ℕ) → List ℕ
 gathered list k = each 16 (λ a. set_below k (within list a))
+
+-- before the first context none is gathered
+pub none_gathered : (list : List ℕ) → replicate 16 0 ≡ gathered list 0
+unfolding each set_below
+none_gathered list = refl
 
 module _ (list : List ℕ) (listed : Listed list) where
   within_so : (a j : ℕ) → within list a j ≡ true → (j ≡ a) ⊎ Ancestor list a j
@@ -81,6 +87,9 @@ module _ (list : List ℕ) (listed : Listed list) where
 module _ (list : List ℕ) (count : is_count (length list) ≡ true) (there : any (is_missing (length list)) list ≡ false) where
   listed : Listed list
   listed = listed_by list count there
+
+  pub one_more_gathered : (k : ℕ) → k < length list → ends list (length list) k ≡ true → marked list (length list) k k (gathered list k) ≡ gathered list (k + 1)
+  one_more_gathered k below end = rw add-one (one_way_more list listed k below end)
 
   pub planned_round : (k : ℕ) → ends list (length list) k ≡ false → plan_of list ≡ refused_by 32
   planned_round k endless =

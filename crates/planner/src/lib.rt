@@ -30,6 +30,7 @@ fn any_missing(parents: &[u8]) -> bool
 
 // Goes up from a context, parent by parent, and puts the context's domain at the place of each one that it comes to, its own first. A way that does not end
 // within as many contexts as there are leads round in a cycle.
+#[tactic(auto, using(crate::proofs::Ways::out_ends, crate::proofs::Ways::none_left, crate::proofs::Ways::goes_up))]
 fn mark_way(parents: &[u8], contexts: &mut [u16; 16], context: u16) -> Result<(), Refusal>
     requires { length parents.now ≤ 16 }
     ensures number { number_of result ≡ pick (ends parents.now (length parents.now) context) 0 32 }
@@ -50,7 +51,7 @@ fn mark_way(parents: &[u8], contexts: &mut [u16; 16], context: u16) -> Result<()
 }
 
 // The contexts of a list that neither 30 nor 31 refuses.
-#[tactic(auto, using(crate::proofs::Marks::one_way_more, crate::proofs::Marks::planned_round, crate::proofs::Marks::planned_ways))]
+#[tactic(auto, using(crate::proofs::Marks::none_gathered, crate::proofs::Marks::one_more_gathered, crate::proofs::Marks::planned_round, crate::proofs::Marks::planned_ways))]
 fn plan_ways(parents: &[u8]) -> Result<[u16; 16], Refusal>
     requires counted { is_count (length parents.now) ≡ true }
     requires there { any (is_missing (length parents.now)) parents.now ≡ false }
