@@ -6,7 +6,7 @@ use mathlib.Core.List.{List, [], ◌∷◌, ◌++◌, map, map-append, append_as
 use native.Mathlib.Numerals.{add-one}
 use native.Mathlib.Omega.{arith}
 use lib.Dec.{eqb, ltb}
-use lib.ListN.{length, get_or, set, take, drop, length-append, length-map, length-take, length-drop}
+use lib.ListN.{length, get_or, set, take, drop, length-map, length-take}
 use lib.Seq.{drop-cons, set_at, take-suc}
 use Rattle.rules.specs.Refusals.{Check, ◌⇒◌, first, pick}
 use Rattle.machine.specs.Machine.{is_right}

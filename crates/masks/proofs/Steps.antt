@@ -9,7 +9,7 @@ use mathlib.Core.Logic.{⊎_elim}
 use borrow.Author.Tests.{eqb-false, ltb-true, ltb-false, lt-ltb, eq-eqb, ne_eqb}
 use native.Mathlib.Nat.{div-eq_of_lt, div-lt_iff_lt-mul, le-div_iff_mul-le, lt_of_lt_of_le, pow-suc}
 use native.Mathlib.Omega.{arith}
-use lib.Bits.{bit_or, and_le_l, and_le_r, or_zero_l, or_zero_r}
+use lib.Bits.{bit_or, and_le_l, and_le_r, or_lt, or_zero_l, or_zero_r}
 use lib.Count.{leading_top}
 use lib.Dec.{eqb, ltb}
 use lib.ListN.{length}
@@ -167,6 +167,12 @@ met_by_more needs one other small within met = split (any (is_unmet other) needs
     split : (b : Bool) → any (is_unmet other) needs ≡ b → b ≡ false
     split true e = absurd (true≢false (sym (any_implied (unmet_within one other small within) needs e) ∙ met))
     split false e = refl
+
+-- and so does a mask with what is left where the last domain that is left is put in
+pub still_met : (needs : List ℕ) (rest mask : ℕ) → (rest ≡ 0 → ⊥) → rest < 65536 → mask < 65536 → any (is_unmet (bit_or mask rest)) needs ≡ false
+    → any (is_unmet (bit_or (with_bit mask (last_domain rest)) (without_bit rest (last_domain rest)))) needs ≡ false
+still_met needs rest mask some small small' met =
+    met_by_more needs (bit_or mask rest) _ (or_lt 16 mask rest small' small) (last_moved rest some small mask) met
 
 module _ (needs : List ℕ) (rest mask : ℕ) (small : mask < 65536) where
   -- where the mask is not less than the best, nothing that adds to it is

@@ -104,6 +104,7 @@ fn last_domain(set: u16) -> u16
 
 // The least of a best mask and of those that meet every need and add to a mask any of the domains that are left. Where the mask itself is not less than the best, none
 // that has more is. The domain of greatest number is left out first, where the others will do without it, and then put in.
+#[tactic(auto, using(crate::proofs::Steps::best_kept, crate::proofs::Steps::last_one, crate::proofs::Steps::lower_less, crate::proofs::Steps::still_met, crate::proofs::Steps::none_meets_all, crate::proofs::Steps::least_split))]
 fn least_from(needs: &[u16], rest: u16, mask: u16, best: u16) -> u16
     requires { any (is_unmet (bit_or mask rest)) needs.now ≡ false }
     ensures { result ≡ least_from needs.now rest mask best }

@@ -8,3 +8,8 @@ pub returns-in_err-mark_way-clause-number : goal.returns-in_err-mark_way-clause-
 returns-in_err-mark_way-clause-number c =
     let refused = err_from_is_err_and c.from_residual.result c.from_residual.ensures.1 in
     rw (refused.1, refused.2) (grind (arith, planned_round))
+
+pub returns-in_err-mark_way-clause-contexts : goal.returns-in_err-mark_way-clause-contexts
+returns-in_err-mark_way-clause-contexts c =
+    let refused = err_from_is_err_and c.from_residual.result c.from_residual.ensures.1 in
+    rw refused.1 (grind (arith, planned_round))
