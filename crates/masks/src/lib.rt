@@ -137,7 +137,7 @@ fn needed_mask(needs: &[u16], context: u16) -> Result<u16, Refusal>
     Ok(least_from(needs, context, 0, context))
 }
 
-// The least mask for pairs of which there are not too many.
+// The least mask for pairs of which there are not too many. What they need stands in an array of the most there may be, since the core has no heap.
 fn mask_for(machine: &Machine, pairs: &[u32]) -> Result<u16, Refusal>
     requires { length pairs.now ≤ 64 }
     ensures number { number_of result ≡ (mask_for machine.now.pages machine.now.fields machine.now.registers.context pairs.now).number }
