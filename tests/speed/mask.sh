@@ -11,19 +11,23 @@ here=$(cd "$(dirname "$0")" && pwd)
 room=$(mktemp -d)
 trap 'rm -rf "$room"' EXIT
 trap 'exit 1' HUP INT TERM
-mkdir -p "$room/crates/timing/src" "$room/crates/timing/proofs/core_least_masks"
+mkdir -p "$room/crates/timing/src"
 cat >"$room/crates/timing/src/lib.rt" <<'RT'
 #![tactic(auto)]
 
 use image::load;
 use masks::least_mask;
+use rules::{Refusal, number_of};
+
+// The number and the mask, which is 0 beside a refusal, in one number.
+fn answer_of(least: Result<u16, Refusal>) -> u32 {
+    u32::from(number_of(least)) * 65536 + u32::from(least.unwrap_or(0))
+}
 
 #[unsafe(no_mangle)]
 pub extern "C" fn core_least_mask(image: &[u8], pairs: &[u32]) -> u32 {
     let loaded = load(image);
-    let machine = loaded.machine;
-    let least = least_mask(machine, pairs);
-    (least.number as u32) * 65536 + least.mask as u32
+    answer_of(least_mask(loaded.machine, pairs))
 }
 
 // The lists stand one behind the other, each of so many pairs.
@@ -31,31 +35,16 @@ pub extern "C" fn core_least_mask(image: &[u8], pairs: &[u32]) -> u32 {
 pub extern "C" fn core_least_masks(image: &[u8], lists: &[u32], count: usize, answers: &mut [u32]) {
     let loaded = load(image);
     let machine = loaded.machine;
-    let mut i: usize = 0;
-    let mut at: usize = 0;
-    while i < answers.len() {
-        if lists.len() - at < count {
+    let mut rest = lists;
+    for answer in answers.iter_mut() {
+        let Some((pairs, others)) = rest.split_at_checked(count) else {
             return;
-        }
-        let end = at + count;
-        let least = least_mask(machine, &lists[at..end]);
-        answers[i] = (least.number as u32) * 65536 + least.mask as u32;
-        at = end;
-        i += 1;
+        };
+        *answer = answer_of(least_mask(machine, pairs));
+        rest = others;
     }
 }
 RT
-cat >"$room/crates/timing/proofs/core_least_masks/Invariants.antt" <<'ANTT'
--- The function is safe and ends: the loop keeps the buffer's length, and stays within the lists.
-use Rattle.std.proofs.Common.{◌-◌, ◌≡◌, ◌≤◌, length}
-use Rattle.timing.proofs.core_least_masks.Given as goal
-
-abbrev pub invariant-loop-i : goal.invariant-loop-i
-invariant-loop-i l = (length l.answers ≡ length l.initial.answers) × (l.at ≤ length l.lists)
-
-abbrev pub decreases-loop-i : goal.decreases-loop-i
-decreases-loop-i l = length l.initial.answers - l.i
-ANTT
 "$here/build.sh" "$room" masks image machine rules >"$room/log" 2>&1 || {
     tail -n 20 "$room/log" >&2
     exit 1

@@ -10,32 +10,23 @@ here=$(cd "$(dirname "$0")" && pwd)
 room=$(mktemp -d)
 trap 'rm -rf "$room"' EXIT
 trap 'exit 1' HUP INT TERM
-mkdir -p "$room/crates/timing/src" "$room/crates/timing/proofs/core_plan"
+mkdir -p "$room/crates/timing/src"
 cat >"$room/crates/timing/src/lib.rt" <<'RT'
 #![tactic(auto)]
 
 use planner::plan;
+use rules::number_of;
 
 #[unsafe(no_mangle)]
 pub extern "C" fn core_plan(parents: &[u8], contexts: &mut [u16]) -> u8 {
     let planned = plan(parents);
-    let places = planned.contexts;
-    let mut i: usize = 0;
-    while i < contexts.len() && i < 16 {
-        contexts[i] = places[i];
-        i += 1;
+    let places = planned.unwrap_or([0; 16]);
+    for (context, place) in contexts.iter_mut().zip(&places) {
+        *context = *place;
     }
-    planned.number
+    number_of(planned)
 }
 RT
-cat >"$room/crates/timing/proofs/core_plan/Invariants.antt" <<'ANTT'
--- The function is safe and ends: each turn takes the next place.
-use Rattle.std.proofs.Common.{◌-◌}
-use Rattle.timing.proofs.core_plan.Given as goal
-
-abbrev pub decreases-loop-i : goal.decreases-loop-i
-decreases-loop-i l = 16 - l.i
-ANTT
 "$here/build.sh" "$room" planner image machine rules >"$room/log" 2>&1 || {
     tail -n 20 "$room/log" >&2
     exit 1

@@ -17,9 +17,6 @@ entries_next size read at (suc n) =
     rw e (ap (λ (rest : List ℕ). read at ∷ rest) (entries_next size read (size + at) n))
 
 module _ (size : ℕ) (read : ℕ → ℕ) (list : List ℕ) (i : ℕ) where
-  pub entries_long : i ≤ length list → length (entries size read 0 i ++ drop i list) ≡ length list
-  entries_long within = simp (length-append, length_entries, length-drop) (omega arith)
-
   pub entries_stored : i < length list → set (entries size read 0 i ++ drop i list) i (read (size * i)) ≡ entries size read 0 (i + 1) ++ drop (i + 1) list
   entries_stored below =
       stored_next (entries size read 0 i) list (read (size * i)) i (length_entries size read 0 i) below

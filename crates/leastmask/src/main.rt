@@ -3,9 +3,9 @@
 // line: which case it is, counted from 1, `start` and how the node started, `mask` and the number, the mask in hexadecimal, and its domains, or `-` where it has none.
 #![tactic(auto)]
 
-ghost use Rattle.std.specs.Prelude.{◌≡◌, ◌++◌, ◌≤◌, ◌/◌, length, drop, IfOk};
+ghost use Rattle.std.specs.Prelude.{◌≡◌, ◌+◌, ◌++◌, ◌≤◌, ◌/◌, length, drop, IfOk, IfSome};
 ghost use Rattle.rules.specs.Domains.{holds};
-ghost use Rattle.rules.specs.Refusals.{pick};
+ghost use Rattle.rules.specs.Refusals.{pick, number_of, given_or};
 ghost use Rattle.masks.specs.Least.{domain_count, least_mask_of};
 ghost use Rattle.leastmask.specs.Asked.{started_of, pair_at, pairs_of};
 
@@ -13,9 +13,18 @@ use image::bytes::word_at;
 use image::load;
 use input::read_full;
 use machine::{Answered, Machine, Report};
-use masks::{LeastMask, least_mask};
+use masks::least_mask;
 use rules::domains::holds_domain;
+use rules::{Refusal, number_of};
 use std::io;
+
+// What is asked: an image, a program of it, and the bytes of the pairs.
+#[derive(Clone, Copy)]
+struct Case<'a> {
+    image: &'a [u8],
+    program: u16,
+    pairs: &'a [u8],
+}
 
 // Starts a node on a program: the load, and the three calls with which a turn begins. A node that does not start is the all-zero machine.
 fn start(image: &[u8], program: u16) -> Answered
@@ -51,23 +60,20 @@ fn store_pairs(pairs: &mut [u32], bytes: &[u8])
     requires bytes_in_bounds { length bytes.now / 4 ≤ length pairs.old }
     ensures { pairs.new ≡ pairs_of bytes.now ++ drop (length bytes.now / 4) pairs.old }
 {
-    let count = bytes.len() / 4;
-    let mut i: usize = 0;
-    while i < count {
+    for i in 0..bytes.len() / 4 {
         pairs[i] = pair_at(bytes, 4 * (i as u32));
-        i += 1;
     }
 }
 
 // The least mask on a machine for the pairs of a string of bytes.
-fn ask(machine: Machine, bytes: &[u8]) -> LeastMask
+fn ask(machine: Machine, bytes: &[u8]) -> Result<u16, Refusal>
     requires { length bytes.now ≤ 65536 }
-    ensures { result ≡ least_mask_of machine (pairs_of bytes.now) }
+    ensures number { number_of result ≡ (least_mask_of machine (pairs_of bytes.now)).number }
+    ensures mask { given_or 0 result ≡ (least_mask_of machine (pairs_of bytes.now)).mask }
 {
     let mut pairs = [0u32; 16384];
     store_pairs(&mut pairs, bytes);
-    let count = bytes.len() / 4;
-    least_mask(machine, &pairs[..count])
+    least_mask(machine, &pairs[..bytes.len() / 4])
 }
 
 // Prints domain s, a space before it, where a mask holds it; answers how many it printed.
@@ -82,14 +88,13 @@ fn print_domain(rt: &impl Print, mask: u16, s: u16) -> io::Result<u32>
 }
 
 // Prints the domains of a mask, or that it has none, and ends the line; answers how many they are.
+#[tactic(auto, using(masks::proofs::Within::domain_counted, masks::proofs::Within::counted_most))]
 fn print_domains(rt: &impl Print, mask: u16) -> io::Result<u32>
     ensures { IfOk result (λ count. count ≡ domain_count mask) }
 {
     let mut count: u32 = 0;
-    let mut s: u16 = 0;
-    while s < 16 {
+    for s in 0..16 {
         count += print_domain(rt, mask, s)?;
-        s += 1;
     }
     if count == 0 {
         print!(rt; " -")?;
@@ -98,57 +103,59 @@ fn print_domains(rt: &impl Print, mask: u16) -> io::Result<u32>
     Ok(count)
 }
 
-// Prints the line of a case; answers how many domains the mask has.
-fn print_line(rt: &impl Print, which: u64, start: u8, least: LeastMask) -> io::Result<u32>
-    ensures { IfOk result (λ count. count ≡ domain_count least.mask) }
+// Prints the line of a case; answers how many domains the mask has, which is 0 where there is none.
+fn print_line(
+    rt: &impl Print,
+    which: u64,
+    start: u8,
+    least: Result<u16, Refusal>,
+) -> io::Result<u32>
+    ensures { IfOk result (λ count. count ≡ domain_count (given_or 0 least)) }
 {
-    print!(rt;
-        "{which} start {start} mask {} {:04x}",
-        least.number, least.mask
-    )?;
-    print_domains(rt, least.mask)
+    let number = number_of(least);
+    let mask = least.unwrap_or(0);
+    print!(rt; "{which} start {start} mask {number} {mask:04x}")?;
+    print_domains(rt, mask)
 }
 
 // Asks a case, prints its line, and hands back what was found.
-fn print_case(
-    rt: &impl Print,
-    which: u64,
-    image: &[u8],
-    program: u16,
-    bytes: &[u8],
-) -> io::Result<LeastMask>
-    requires { length bytes.now ≤ 65536 }
-    ensures { IfOk result (λ least. least ≡ least_mask_of (started_of image.now program).machine (pairs_of bytes.now)) }
+fn print_case(rt: &impl Print, which: u64, case: Case<'_>) -> io::Result<Result<u16, Refusal>>
+    requires { length case.pairs.now ≤ 65536 }
+    ensures number { IfOk result (λ least. number_of least ≡ (least_mask_of (started_of case.entry.image.now case.entry.program).machine (pairs_of case.entry.pairs.now)).number) }
+    ensures mask { IfOk result (λ least. given_or 0 least ≡ (least_mask_of (started_of case.entry.image.now case.entry.program).machine (pairs_of case.entry.pairs.now)).mask) }
 {
-    let started = start(image, program);
-    let least = ask(started.machine, bytes);
+    let started = start(case.image, case.program);
+    let least = ask(started.machine, case.pairs);
     print_line(rt, which, started.number, least)?;
     Ok(least)
 }
 
-// Asks the cases one after another, and answers how many bytes there are.
+// The first case of a string of bytes, and the bytes behind it; none where the bytes end before the case does.
+fn first_case(bytes: &[u8]) -> Option<(Case<'_>, &[u8])>
+    ensures { IfSome result (λ found. length found.0.pairs.now + length found.1.now + 2 ≤ length bytes.now) }
+{
+    let (head, rest) = bytes.split_at_checked(2)?;
+    let (image, rest) = rest.split_at_checked(usize::from(word_at(head, 0)))?;
+    let (asked, rest) = rest.split_at_checked(4)?;
+    let (pairs, rest) = rest.split_at_checked(4 * usize::from(word_at(asked, 2)))?;
+    let case = Case {
+        image,
+        program: word_at(asked, 0),
+        pairs,
+    };
+    Some((case, rest))
+}
+
+// Asks the cases one after another, and answers how many bytes there are. Each case is as long as stands in it, so no `for` knows where it ends.
 fn print_cases(rt: &impl Print, bytes: &[u8]) -> io::Result<usize>
     requires { length bytes.now ≤ 65536 }
     ensures { IfOk result (λ count. count ≡ length bytes.now) }
 {
-    let mut at: usize = 0;
+    let mut rest = bytes;
     let mut which: u64 = 1;
-    while at < bytes.len() {
-        let middle = at + 2 + word_at(bytes, at as u32) as usize;
-        let first = middle + 4;
-        let end = first + 4 * (word_at(bytes, middle as u32 + 2) as usize);
-        if bytes.len() < end {
-            return Ok(bytes.len());
-        }
-        let program = word_at(bytes, middle as u32);
-        print_case(
-            rt,
-            which,
-            &bytes[at + 2..middle],
-            program,
-            &bytes[first..end],
-        )?;
-        at = end;
+    while let Some((case, others)) = first_case(rest) {
+        let _ = print_case(rt, which, case)?;
+        rest = others;
         which += 1;
     }
     Ok(bytes.len())

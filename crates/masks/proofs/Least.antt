@@ -23,9 +23,8 @@ use Rattle.machine.specs.declared.record.Machine.{Machine}
 use Rattle.machine.specs.declared.record.Width.{Width}
 use Rattle.machine.specs.declared.record.Call.TheVariants.{Access, SetMask}
 use Rattle.machine.proofs.Touched.{any_same, neither}
-use Rattle.masks.specs.Least.{right_of, page_in, under_mask, denies, will_do, masks_within, candidates, least_of, pair_checks, least_checks, least_mask_of}
+use Rattle.masks.specs.Least.{LeastMask, right_of, page_in, under_mask, denies, will_do, masks_within, candidates, least_of, pair_checks, least_checks, least_mask_of}
 use Rattle.masks.specs.Search.{refused_by}
-use Rattle.masks.specs.declared.LeastMask.{LeastMask}
 use Rattle.masks.proofs.Bad.{GoodBefore, PairsGive, no_right, no_page, all_good, pairs_exactly}
 use Rattle.masks.proofs.Numbers.{unsound_first, too_many, bad_given, none_given, mask_given}
 use Rattle.masks.proofs.Order.{Before, before_further, least_before, least_in, in_passing, passing_in, passing_none}

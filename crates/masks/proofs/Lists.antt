@@ -1,20 +1,16 @@
 -- What a loop over a list finds at its next place: of a test, of the numbers of pairs, of what pairs need. From the list's head.
 use Prim.Native.Nat.{ℕ, suc, ◌+◌, ◌<◌, ◌≤◌}
 use mathlib.Core.Path.{◌≡◌, refl, sym, ap, ◌∙◌}
-use mathlib.Core.Bool.{Bool, true, false, not, ◌||◌}
+use mathlib.Core.Bool.{Bool, true, false, not}
 use mathlib.Core.List.{List, [], ◌∷◌, ◌++◌, map, map-append, append_assoc}
 use native.Mathlib.Numerals.{add-one}
 use native.Mathlib.Omega.{arith}
 use lib.Dec.{eqb, ltb}
-use lib.ListN.{length, get_or, set, take, drop, length-append, length-map, length-take, length-drop}
+use lib.ListN.{length, get_or, set, take, drop, length-map, length-take}
 use lib.Seq.{drop-cons, set_at, take-suc}
 use Rattle.rules.specs.Refusals.{Check, ◌⇒◌, first, pick}
 use Rattle.machine.specs.Machine.{is_right}
-use Rattle.machine.specs.Calls.{any}
 use Rattle.masks.specs.Least.{right_of, page_in, pair_checks}
-
-pub any_next : (p : ℕ → Bool) (list : List ℕ) (i : ℕ) → i < length list → any p (drop i list) ≡ p (get_or list i 0) || any p (drop (i + 1) list)
-any_next p list i below = rw (add-one, drop-cons list i 0)
 
 -- the number of the first bad pair, or else of what is asked after them
 pub pairs_then : (pages : ℕ) (pairs : List ℕ) (more : List Check)
@@ -48,9 +44,6 @@ stored_next done list v i long below =
 
 -- what the pairs so far need stands before the rest of a list, and the next goes after it
 module _ (need : ℕ → ℕ) (pairs list : List ℕ) (i : ℕ) where
-  pub needs_long : i ≤ length pairs → length pairs ≤ length list → length (map need (take i pairs) ++ drop i list) ≡ length list
-  needs_long within room = simp (length-append, length-map, length-take, length-drop) (omega arith)
-
   pub needs_next : i < length pairs → length pairs ≤ length list
       → set (map need (take i pairs) ++ drop i list) i (need (get_or pairs i 0)) ≡ map need (take (i + 1) pairs) ++ drop (i + 1) list
   needs_next below room =

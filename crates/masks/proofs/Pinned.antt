@@ -17,8 +17,7 @@ use Rattle.machine.specs.declared.record.Machine.{Machine}
 use Rattle.machine.specs.declared.record.Width.TheVariants.{One}
 use Rattle.machine.specs.declared.record.Call.TheVariants.{Access}
 use Rattle.machine.proofs.Written.{holding, live, stored, whole}
-use Rattle.masks.specs.Least.{right_of, page_in, under_mask, denies, will_do, masks_from, masks_within, passing, candidates, domain_count, is_less, least_of, pair_checks, least_checks, least_mask_of}
-use Rattle.masks.specs.declared.LeastMask.{LeastMask}
+use Rattle.masks.specs.Least.{LeastMask, right_of, page_in, under_mask, denies, will_do, masks_from, masks_within, passing, candidates, domain_count, is_less, least_of, pair_checks, least_checks, least_mask_of}
 
 -- RULES 12.1: each pair of a right and a page has one number, which says both
 pub pair_read : (right page : ℕ) → page < 65536 → (right_of (right * 65536 + page) ≡ right) × (page_in (right * 65536 + page) ≡ page)

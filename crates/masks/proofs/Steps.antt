@@ -9,7 +9,7 @@ use mathlib.Core.Logic.{⊎_elim}
 use borrow.Author.Tests.{eqb-false, ltb-true, ltb-false, lt-ltb, eq-eqb, ne_eqb}
 use native.Mathlib.Nat.{div-eq_of_lt, div-lt_iff_lt-mul, le-div_iff_mul-le, lt_of_lt_of_le, pow-suc}
 use native.Mathlib.Omega.{arith}
-use lib.Bits.{bit_or, and_le_l, and_le_r, or_zero_l, or_zero_r}
+use lib.Bits.{bit_or, and_le_l, and_le_r, or_lt, or_zero_l, or_zero_r}
 use lib.Count.{leading_top}
 use lib.Dec.{eqb, ltb}
 use lib.ListN.{length}
@@ -20,7 +20,7 @@ use Rattle.rules.proofs.Laws.{no_domain_held}
 use Rattle.rules.proofs.Lowest.{granted_holds, held_digit, held_either, none_shared, one_shared, revoked_holds}
 use Rattle.machine.specs.Calls.{any}
 use Rattle.masks.specs.Least.{is_less, masks_from, masks_within, passing, least_of}
-use Rattle.masks.specs.Search.{is_unmet, meets_all, last_domain, least_from}
+use Rattle.masks.specs.Search.{needed_mask, refused_by, is_unmet, meets_all, last_domain, least_from}
 use Rattle.masks.proofs.Order.{before_further, less_not, not_less, least_alike, least_kept, least_further, passing_further, passing_in, in_passing, passing_none}
 use Rattle.masks.proofs.Within.{Within, either_left, either_right, empty_holds, within_before, looked_within, looked_above, looked_fits, looked_all}
 
@@ -168,6 +168,12 @@ met_by_more needs one other small within met = split (any (is_unmet other) needs
     split true e = absurd (true≢false (sym (any_implied (unmet_within one other small within) needs e) ∙ met))
     split false e = refl
 
+-- and so does a mask with what is left where the last domain that is left is put in
+pub still_met : (needs : List ℕ) (rest mask : ℕ) → (rest ≡ 0 → ⊥) → rest < 65536 → mask < 65536 → any (is_unmet (bit_or mask rest)) needs ≡ false
+    → any (is_unmet (bit_or (with_bit mask (last_domain rest)) (without_bit rest (last_domain rest)))) needs ≡ false
+still_met needs rest mask some small small' met =
+    met_by_more needs (bit_or mask rest) _ (or_lt 16 mask rest small' small) (last_moved rest some small mask) met
+
 module _ (needs : List ℕ) (rest mask : ℕ) (small : mask < 65536) where
   -- where the mask is not less than the best, nothing that adds to it is
   pub best_kept : (best : ℕ) → is_less mask best ≡ false → least_from needs rest mask best ≡ best
@@ -217,3 +223,13 @@ none_exactly needs context small = split (any (is_unmet context) needs) refl
     split true e =
         rw (none_meets_all needs context 0 (omega arith) (subst (λ (set : ℕ). any (is_unmet set) needs ≡ true) (sym (or_zero_l context)) e))
     split false e = some (passing (meets_all needs) (masks_within context)) (context_meets needs context small e)
+
+-- so what is given for these needs is 34, or the mask to which the search from the context comes
+pub needed_none : (needs : List ℕ) (context : ℕ) → context < 65536 → any (is_unmet context) needs ≡ true → needed_mask needs context ≡ refused_by 34
+unfolding needed_mask
+needed_none needs context small unmet = rw (none_exactly needs context small, unmet)
+
+pub needed_found : (needs : List ℕ) (context : ℕ) → context < 65536 → any (is_unmet context) needs ≡ false
+    → needed_mask needs context ≡ record { number = 0; mask = least_from needs context 0 context }
+unfolding needed_mask
+needed_found needs context small met = rw (from_context needs context small met, none_exactly needs context small, met)

@@ -10,7 +10,11 @@ use Rattle.machine.specs.Calls.{any, call_of}
 use Rattle.machine.specs.declared.record.Machine.{Machine}
 use Rattle.machine.specs.declared.record.Width.TheVariants.{One}
 use Rattle.machine.specs.declared.record.Call.TheVariants.{Access}
-use Rattle.masks.specs.declared.LeastMask.{LeastMask}
+
+-- RULES 12.3, 12.5: what is given: a number, and the least mask, which is 0 where the number is not
+pub record LeastMask : Type 0 where
+  pub number : ℕ
+  pub mask : ℕ
 
 -- RULES 12.1: a pair of a right and a page is one number, right × 65,536 + page
 abbrev pub right_of : ℕ → ℕ

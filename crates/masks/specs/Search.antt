@@ -5,8 +5,7 @@ use Rattle.std.specs.Int.Count.{count_leading_zeros}
 use Rattle.rules.specs.Refusals.{first, pick}
 use Rattle.machine.specs.Machine.{place_of}
 use Rattle.machine.specs.Calls.{any}
-use Rattle.masks.specs.Least.{right_of, page_in, masks_from, masks_within, passing, least_of, pair_checks}
-use Rattle.masks.specs.declared.LeastMask.{LeastMask}
+use Rattle.masks.specs.Least.{LeastMask, right_of, page_in, masks_from, masks_within, passing, least_of, pair_checks}
 
 -- what a pair needs: a domain that its field and a context both hold
 abbrev pub need_of : (fields : List ℕ) (context pair : ℕ) → ℕ

@@ -4,33 +4,19 @@
 
 ghost use Rattle.std.specs.Prelude.{◌≡◌, false, [], ◌∷◌, map, ◌++◌, ◌≤◌, length, drop};
 ghost use Rattle.std.specs.Int.Bits.{bit_or};
-ghost use Rattle.rules.specs.Refusals.{first};
+ghost use Rattle.rules.specs.Refusals.{first, number_of, given_or};
 ghost use Rattle.machine.specs.Calls.{any};
-ghost use Rattle.masks.specs.Least.{right_of, page_in, domain_count, is_less, pair_checks, least_mask_of};
-ghost use Rattle.masks.specs.Search.{need_of, is_unmet, last_domain, least_from, refused_by, needed_mask, mask_for};
+ghost use Rattle.masks.specs.Least.{right_of, page_in, is_less, pair_checks, least_mask_of};
+ghost use Rattle.masks.specs.Search.{need_of, is_unmet, last_domain, least_from, needed_mask, mask_for};
 
 use machine::Machine;
-use machine::record::read_field;
-use rules::domains::{with_bit, without_bit};
-
-// What is given: a number, and the least mask, which is 0 where the number is not (RULES 12.3, 12.5).
-#[derive(Clone, Copy)]
-pub struct LeastMask {
-    pub number: u8,
-    pub mask: u16,
-}
+use rules::Refusal;
+use rules::domains::{domain_count, with_bit, without_bit};
 
 // How many pairs a list may have (RULES 12.4).
 pub const PAIRS: usize = 64;
 
-// A refusal (RULES 12.5).
-fn refused(number: u8) -> LeastMask
-    ensures { result ≡ refused_by number }
-{
-    LeastMask { number, mask: 0 }
-}
-
-// The right of a pair (RULES 12.1).
+// The right of a pair, which is one number (RULES 12.1).
 fn right_of(pair: u32) -> u16
     ensures { result ≡ right_of pair }
 {
@@ -44,96 +30,81 @@ fn page_in(pair: u32) -> u16
     (pair % 65536) as u16
 }
 
-// What is wrong with a pair, 0 where nothing is (RULES 12.4).
-fn pair_number(pages: u16, pair: u32) -> u8
-    ensures { result ≡ first (pair_checks pages (pair ∷ [])) }
+// A pair is refused where it names no right or no page (RULES 12.4).
+#[tactic(auto, unfolding(crate::specs::Least::pair_checks))]
+fn check_pair(pages: u16, pair: u32) -> Result<(), Refusal>
+    ensures { number_of result ≡ first (pair_checks pages (pair ∷ [])) }
 {
     if 1 < right_of(pair) {
-        return 2;
+        return Err(Refusal::NoSuchRight);
     }
     if pages <= page_in(pair) {
-        return 4;
+        return Err(Refusal::NoSuchPage);
     }
-    0
+    Ok(())
 }
 
-// The number of the first bad pair, 0 where there is none.
-fn bad_pair(pages: u16, pairs: &[u32]) -> u8
-    ensures { result ≡ first (pair_checks pages pairs.now) }
+// The first bad pair refuses a list.
+#[tactic(auto, using(crate::proofs::Lists::pairs_next), unfolding(crate::specs::Least::pair_checks))]
+fn check_pairs(pages: u16, pairs: &[u32]) -> Result<(), Refusal>
+    ensures { number_of result ≡ first (pair_checks pages pairs.now) }
 {
-    let mut i: usize = 0;
-    while i < pairs.len() {
-        let number = pair_number(pages, pairs[i]);
-        if number != 0 {
-            return number;
-        }
-        i += 1;
+    for pair in pairs {
+        check_pair(pages, *pair)?;
     }
-    0
+    Ok(())
 }
 
-// What a pair needs: one of the domains that its field and a context share.
-fn need_of(fields: &[u16], context: u16, pair: u32) -> u16
-    ensures { result ≡ need_of fields.now context pair }
+// What a pair needs: one of the domains that its field and the context share.
+fn need_of(machine: &Machine, pair: u32) -> u16
+    ensures { result ≡ need_of machine.now.fields machine.now.registers.context pair }
 {
-    let at = 2 * (page_in(pair) as usize) + right_of(pair) as usize;
-    read_field(fields, at) & context
+    let at = 2 * usize::from(page_in(pair)) + usize::from(right_of(pair));
+    machine.fields.get(at).copied().unwrap_or(0) & machine.registers.context
 }
 
 // Stores what each pair needs in a lent slice, from its first place on.
-fn store_needs(needs: &mut [u16], fields: &[u16], context: u16, pairs: &[u32])
+fn store_needs(needs: &mut [u16], machine: &Machine, pairs: &[u32])
     requires { length pairs.now ≤ length needs.old }
-    ensures { needs.new ≡ map (need_of fields.now context) pairs.now ++ drop (length pairs.now) needs.old }
+    ensures { needs.new ≡ map (need_of machine.now.fields machine.now.registers.context) pairs.now ++ drop (length pairs.now) needs.old }
 {
-    let mut i: usize = 0;
-    while i < pairs.len() {
-        needs[i] = need_of(fields, context, pairs[i]);
-        i += 1;
+    for (i, pair) in pairs.iter().enumerate() {
+        needs[i] = need_of(machine, *pair);
     }
 }
 
-// A set of domains leaves some need unmet. Every need is looked at, so that the compiler asks many at once (docs/PERFORMANCE.md).
+// A set of domains leaves some need unmet. Every need is looked at, so that the compiler asks many at once (docs/PERFORMANCE.md): `any` would stop at the first, and
+// a `fold`, which is proved too, costs five of a hundred instructions more, since it keeps the ends of the slice over each turn of the search.
 fn any_unmet(needs: &[u16], set: u16) -> bool
     ensures { result ≡ any (is_unmet set) needs.now }
 {
     let mut some = false;
-    let mut i: usize = 0;
-    while i < needs.len() {
-        some = some | (needs[i] & set == 0);
-        i += 1;
+    for need in needs {
+        some |= *need & set == 0;
     }
     some
 }
 
-// How many domains a mask holds.
-fn domain_count(mask: u16) -> u32
-    ensures { result ≡ domain_count mask }
-{
-    u16::count_ones(mask)
-}
-
-// One mask is less than another (RULES 12.3).
+// One mask is less than another: it has fewer domains, or as many and is the smaller number (RULES 12.3). The two compared as pairs, `(count, one) < (others, other)`,
+// are proved too, and cost each turn of the search two instructions more: 2.4 of a hundred for the dearest list.
 fn is_less(one: u16, other: u16) -> bool
     ensures { result ≡ is_less one other }
 {
     let count = domain_count(one);
     let others = domain_count(other);
-    (count < others) | ((count == others) & (one < other))
+    count < others || (count == others && one < other)
 }
 
 // The domain of greatest number in a set; 0 where it is empty.
 fn last_domain(set: u16) -> u16
     ensures { result ≡ last_domain set }
 {
-    let zeros = u16::leading_zeros(set) as u16;
-    if zeros < 16 {
-        return 15 - zeros;
-    }
-    0
+    15u16.saturating_sub(set.leading_zeros() as u16)
 }
 
 // The least of a best mask and of those that meet every need and add to a mask any of the domains that are left. Where the mask itself is not less than the best, none
 // that has more is. The domain of greatest number is left out first, where the others will do without it, and then put in.
+#[tactic(auto, using(crate::proofs::Steps::best_kept, crate::proofs::Steps::last_one, crate::proofs::Steps::lower_less, crate::proofs::Steps::still_met, crate::proofs::Steps::none_meets_all, crate::proofs::Steps::least_split))]
 fn least_from(needs: &[u16], rest: u16, mask: u16, best: u16) -> u16
     requires { any (is_unmet (bit_or mask rest)) needs.now ≡ false }
     ensures { result ≡ least_from needs.now rest mask best }
@@ -155,44 +126,40 @@ fn least_from(needs: &[u16], rest: u16, mask: u16, best: u16) -> u16
 }
 
 // The least mask within a context that meets all needs. The whole context will do if any mask does.
-fn needed_mask(needs: &[u16], context: u16) -> LeastMask
-    ensures { result ≡ needed_mask needs.now context }
+#[tactic(auto, using(crate::proofs::Steps::needed_none, crate::proofs::Steps::needed_found))]
+fn needed_mask(needs: &[u16], context: u16) -> Result<u16, Refusal>
+    ensures number { number_of result ≡ (needed_mask needs.now context).number }
+    ensures mask { given_or 0 result ≡ (needed_mask needs.now context).mask }
 {
     if any_unmet(needs, context) {
-        return refused(34);
+        return Err(Refusal::NoMask);
     }
-    LeastMask {
-        number: 0,
-        mask: least_from(needs, context, 0, context),
-    }
+    Ok(least_from(needs, context, 0, context))
 }
 
-// The least mask for pairs of which there are not too many.
-fn mask_for(pages: u16, fields: &[u16], context: u16, pairs: &[u32]) -> LeastMask
+// The least mask for pairs of which there are not too many. What they need stands in an array of the most there may be, since the core has no heap.
+fn mask_for(machine: &Machine, pairs: &[u32]) -> Result<u16, Refusal>
     requires { length pairs.now ≤ 64 }
-    ensures { result ≡ mask_for pages fields.now context pairs.now }
+    ensures number { number_of result ≡ (mask_for machine.now.pages machine.now.fields machine.now.registers.context pairs.now).number }
+    ensures mask { given_or 0 result ≡ (mask_for machine.now.pages machine.now.fields machine.now.registers.context pairs.now).mask }
 {
-    let bad = bad_pair(pages, pairs);
-    if bad != 0 {
-        return refused(bad);
-    }
+    check_pairs(machine.pages, pairs)?;
     let mut needs = [0u16; PAIRS];
-    store_needs(&mut needs, fields, context, pairs);
-    let count = pairs.len();
-    needed_mask(&needs[..count], context)
+    store_needs(&mut needs, machine, pairs);
+    needed_mask(&needs[..pairs.len()], machine.registers.context)
 }
 
 // The least mask for a list of pairs, each right × 65,536 + page, on a machine (RULES, section 12).
-pub fn least_mask(machine: Machine, pairs: &[u32]) -> LeastMask
-    ensures { result ≡ least_mask_of machine pairs.now }
+#[tactic(auto, using(crate::proofs::Numbers::unsound_first, crate::proofs::Numbers::too_many, crate::proofs::Numbers::masked_for))]
+pub fn least_mask(machine: Machine, pairs: &[u32]) -> Result<u16, Refusal>
+    ensures number { number_of result ≡ (least_mask_of machine pairs.now).number }
+    ensures mask { given_or 0 result ≡ (least_mask_of machine pairs.now).mask }
 {
     if !machine.sound() {
-        return refused(1);
+        return Err(Refusal::Unsound);
     }
     if PAIRS < pairs.len() {
-        return refused(33);
+        return Err(Refusal::TooManyPairs);
     }
-    let fields = machine.fields;
-    let registers = machine.registers;
-    mask_for(machine.pages, &fields, registers.context, pairs)
+    mask_for(&machine, pairs)
 }

@@ -2,13 +2,14 @@
 -- from m, both through contexts below m.
 use Prim.Native.Nat.{ℕ, zero, suc, ◌<◌}
 use mathlib.Core.Path.{◌≡◌, refl, sym, ◌∙◌}
-use mathlib.Core.Bool.{Bool, true, false, not, ◌&&◌, ◌||◌, or-true}
+use mathlib.Core.Bool.{Bool, true, false, not, ◌&&◌, or-true}
 use mathlib.Core.List.{List}
 use mathlib.Core.Logic.{◌⊎◌, inl, inr, ⊎_elim}
 use borrow.Author.Tests.{eqb-true, eqb-false, ltb-true, ltb-false, not-true}
 use lib.Dec.{eqb, ltb}
 use lib.ListN.{length, get_or, get_or-eq_default}
 use native.Mathlib.Omega.{arith}
+use Rattle.std.proofs.lemmas.Bool.{or_cases}
 use Rattle.rules.proofs.Decided.{and_both}
 use Rattle.planner.specs.Ancestors.{no_parent, is_parent, Ancestor, parent, above, Tells, reaches, is_ancestor}
 
@@ -29,10 +30,6 @@ has_place list p k h = split (ltb k (length list)) refl
     split true e = ltb-true k (length list) e
     split false e =
         absurd (stands.1 (sym stands.0 ∙ get_or-eq_default list no_parent (ltb-false k (length list) e)))
-
-pub either : (a b : Bool) → a || b ≡ true → (a ≡ true) ⊎ (b ≡ true)
-either true b h = inl refl
-either false b h = inr h
 
 -- two tests of which each says yes where the other does are the same
 pub alike : (a b : Bool) → (a ≡ true → b ≡ true) → (b ≡ true → a ≡ true) → a ≡ b
@@ -76,7 +73,7 @@ module _ (list : List ℕ) where
       (λ both.
       let each = and_both (reaches list m m k) (reaches list m a m) both in
       join m (reaches_way m m k each.0) (reaches_way m a m each.1))
-      (either (reaches list m a k) (reaches list m m k && reaches list m a m) h)
+      (or_cases (reaches list m a k) (reaches list m m k && reaches list m a m) h)
 
   way_reaches : (m a k : ℕ) → Through m a k → reaches list m a k ≡ true
   unfolding reaches

@@ -1,14 +1,14 @@
 -- Lists of what belongs to each number below a count: what stands at a place, and how a loop fills and alters them. By the list's elements.
-use Prim.Native.Nat.{ℕ, zero, suc, ◌+◌, ◌<◌, ◌≤◌}
+use Prim.Native.Nat.{ℕ, zero, suc, ◌<◌}
 use mathlib.Core.Path.{◌≡◌, refl, sym, ap, ◌∙◌}
 use mathlib.Core.Bool.{Bool, true, false}
 use mathlib.Core.List.{List, [], ◌∷◌}
 use borrow.Author.Tests.{ltb-true, ltb-false}
 use lib.Dec.{eqb, ltb, eqb-zero-suc, eqb-suc-zero, eqb-suc-suc}
-use lib.ListN.{length, get_or, set, drop, drop_of_length-le, get_or-eq_default}
-use lib.Seq.{drop-cons, ext_get_or}
-use native.Mathlib.Numerals.{add-one}
+use lib.ListN.{length, get_or, set, get_or-eq_default}
+use lib.Seq.{ext_get_or}
 use native.Mathlib.Omega.{arith}
+use Rattle.std.specs.List.{list_any}
 use Rattle.rules.specs.Refusals.{pick}
 use Rattle.machine.specs.Calls.{any}
 use Rattle.image.specs.Description.{pad}
@@ -52,19 +52,7 @@ module _ {A : Type 0} where
           rw (pad_at z n (each m of) k below, each_at z n (λ k. pick (ltb k m) (of k) z) k below, e)
           (get_or-eq_default (each m of) z (rw (each_length m of) (ltb-false k m e)))
 
--- what stands at a place of a list does not depend on what is read past its end
-pub get_or_known : (l : List ℕ) (i a b : ℕ) → i < length l → get_or l i a ≡ get_or l i b
-get_or_known [] i a b h = absurd (omega arith)
-get_or_known (x ∷ l) zero a b h = refl
-get_or_known (x ∷ l) (suc i) a b h = get_or_known l i a b (omega arith)
-
--- whether some number of a list meets a condition, as a loop over its places finds it: at this place, past it, and at the end
-module _ (p : ℕ → Bool) (l : List ℕ) (i : ℕ) where
-  pub any_here : i < length l → p (get_or l i 0) ≡ true → any p (drop i l) ≡ true
-  any_here h met = rw (drop-cons l i 0, met)
-
-  pub any_past : i < length l → p (get_or l i 0) ≡ false → any p (drop i l) ≡ any p (drop (i + 1) l)
-  any_past h unmet = rw (add-one, drop-cons l i 0, unmet)
-
-  pub any_none : length l ≤ i → any p (drop i l) ≡ false
-  any_none h = rw (drop_of_length-le l h)
+-- std's word for a test of some element says what this repository's does
+pub any_listed : (p : ℕ → Bool) (l : List ℕ) → list_any p l ≡ any p l
+any_listed p [] = refl
+any_listed p (x ∷ l) = rw (any_listed p l)

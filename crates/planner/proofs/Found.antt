@@ -1,7 +1,7 @@
 -- Some number of a list meets a condition exactly where one at a place does, by induction on the list; so some parent is missing, and some context is its own ancestor, exactly where the
 -- tests of a plan find one.
 use Prim.Native.Nat.{ℕ, zero, suc, ◌<◌, ◌≤◌}
-use mathlib.Core.Path.{◌≡◌, refl, sym, ◌∙◌}
+use mathlib.Core.Path.{◌≡◌, refl, sym}
 use mathlib.Core.Bool.{Bool, true, false, not, ◌||◌, or-true, true≢false}
 use mathlib.Core.List.{List, [], ◌∷◌}
 use mathlib.Core.Logic.{◌↔◌}
@@ -9,6 +9,7 @@ use borrow.Author.Tests.{eq-eqb, ne_eqb, leb-true, le-leb, ltb-true, ltb-false}
 use lib.Dec.{eqb, leb, ltb}
 use lib.ListN.{length, get_or}
 use native.Mathlib.Omega.{arith}
+use Rattle.std.proofs.lemmas.Bool.{both_ways}
 use Rattle.rules.proofs.Decided.{and_both}
 use Rattle.machine.specs.Calls.{any}
 use Rattle.planner.specs.Ancestors.{no_parent, is_parent, Ancestor, parent, above, is_ancestor}
@@ -56,14 +57,6 @@ pub record Listed (list : List ℕ) : Type 0 where
   pub few : length list ≤ 16
   pub there : (p k : ℕ) → is_parent list p k ≡ true → p < length list
 
--- a test that says no where nothing is found
-pub not_found : (b : Bool) → (b ≡ true → ⊥) → b ≡ false
-not_found true none = absurd (none refl)
-not_found false none = refl
-
-pub never : {b : Bool} → b ≡ false → b ≡ true → ⊥
-never not_so so = true≢false (sym so ∙ not_so)
-
 pub listed_by : (list : List ℕ) → is_count (length list) ≡ true → any (is_missing (length list)) list ≡ false → Listed list
 listed_by list count none =
     let range = (count_exactly (length list)).0 count in
@@ -71,7 +64,7 @@ listed_by list count none =
   where
     split : (p k : ℕ) → is_parent list p k ≡ true → (b : Bool) → ltb p (length list) ≡ b → p < length list
     split p k h true e = ltb-true p (length list) e
-    split p k h false e = absurd (never none ((missing_exactly list).1 (p, k, h, ltb-false p (length list) e)))
+    split p k h false e = absurd (both_ways _ none ((missing_exactly list).1 (p, k, h, ltb-false p (length list) e)))
 
 -- whatever has an ancestor is a context of the list
 pub own_place : (list : List ℕ) {a k : ℕ} → Ancestor list a k → k < length list

@@ -9,8 +9,7 @@ use lib.Dec.{leb}
 use lib.ListN.{length, replicate}
 use Rattle.rules.proofs.Decided.{and_both}
 use Rattle.machine.specs.Calls.{any}
-use Rattle.planner.specs.Plan.{each, contexts_of, is_count, is_missing, plan_checks, planned_of}
-use Rattle.planner.specs.declared.Planned.{Planned}
+use Rattle.planner.specs.Plan.{Planned, each, contexts_of, is_count, is_missing, plan_checks, planned_of}
 
 -- a plan that is refused has zero in all sixteen places
 abbrev pub refused_by : ℕ → Planned

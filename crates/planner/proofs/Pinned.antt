@@ -6,15 +6,14 @@ use mathlib.Core.Bool.{Bool, true, false, not, ◌&&◌, ◌||◌}
 use mathlib.Core.List.{List, [], ◌∷◌, map}
 use lib.Dec.{eqb, leb}
 use lib.ListN.{length, get_or, replicate}
+use Rattle.std.proofs.lemmas.Bool.{both_ways}
 use Rattle.rules.specs.Domains.{domain_bit}
 use Rattle.rules.specs.Refusals.{pick}
 use Rattle.machine.specs.Calls.{any}
 use Rattle.image.specs.Description.{pad}
 use Rattle.planner.specs.Ancestors.{is_parent, Ancestor, parent, above, reaches}
-use Rattle.planner.specs.Plan.{each, set_below, set_of, plan_checks, planned_of, plan_of}
-use Rattle.planner.specs.declared.Planned.{Planned}
+use Rattle.planner.specs.Plan.{Planned, each, set_below, set_of, plan_checks, planned_of, plan_of}
 use Rattle.planner.proofs.Ancestry.{ancestry_told}
-use Rattle.planner.proofs.Found.{never}
 use Rattle.planner.proofs.Rings.{row, ring}
 
 -- RULES 11.1: the parent of a context is what stands at its place, unless that is 255, for every list and all numbers
@@ -86,7 +85,7 @@ pub led_into_cycle :
 unfolding reaches
 led_into_cycle =
     let list : List ℕ = 1 ∷ 2 ∷ 1 ∷ [] in
-    ((λ way. never refl ((ancestry_told list 0 0).1 way)), (ancestry_told list 1 1).0 refl, (ancestry_told list 2 2).0 refl)
+    ((λ way. both_ways _ refl ((ancestry_told list 0 0).1 way)), (ancestry_told list 1 1).0 refl, (ancestry_told list 2 2).0 refl)
 
 -- RULES 11.5: rings, and lists that lead round
 pub rings_written :

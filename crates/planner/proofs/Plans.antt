@@ -10,6 +10,7 @@ use lib.Bits.{bit_and, and_le_l}
 use lib.Dec.{eqb, leb, ltb}
 use lib.ListN.{length, get_or, replicate, get_or-eq_default}
 use native.Mathlib.Omega.{arith}
+use Rattle.std.proofs.lemmas.Bool.{or_cases, false_from_ne_true, both_ways}
 use Rattle.rules.specs.Domains.{holds}
 use Rattle.rules.proofs.Laws.{no_domain_held}
 use Rattle.rules.proofs.Lowest.{both_held, held_alike, held_both}
@@ -18,12 +19,11 @@ use Rattle.machine.specs.Machine.{no_program}
 use Rattle.image.specs.Description.{Description, Shaped, Legal}
 use Rattle.image.proofs.Entries.{length_pad, pad_at, pad_past}
 use Rattle.planner.specs.Ancestors.{is_parent, Ancestor, parent, above, Tells, is_ancestor}
-use Rattle.planner.specs.Plan.{each, global_context, contexts_of, is_count, is_missing, planned_of, plan_of}
-use Rattle.planner.specs.declared.Planned.{Planned}
-use Rattle.planner.proofs.Ancestry.{ancestry_told, has_place, told_alike, either}
+use Rattle.planner.specs.Plan.{Planned, each, global_context, contexts_of, is_count, is_missing, planned_of, plan_of}
+use Rattle.planner.proofs.Ancestry.{ancestry_told, has_place, told_alike}
 use Rattle.planner.proofs.Each.{each_at, each_length}
 use Rattle.planner.proofs.Forests.{on_one_way}
-use Rattle.planner.proofs.Found.{Listed, listed_by, missing_exactly, own_place, cycle_found, never, not_found}
+use Rattle.planner.proofs.Found.{Listed, listed_by, missing_exactly, own_place, cycle_found}
 use Rattle.planner.proofs.Numbers.{count_exactly, planned_count, planned_missing, planned_cycle, planned_all}
 use Rattle.planner.proofs.Sets.{set_holds, set_fits}
 
@@ -71,7 +71,7 @@ module _ (list : List ℕ) where
           rw (planned_cycle list test count there e) (own_ancestor listed found.1)
       by_cycle listed count there false e =
           rw (planned_all list test count there e)
-          (accepted listed (λ k way. never e ((cycle_found list).1 (k, way))))
+          (accepted listed (λ k way. both_ways _ e ((cycle_found list).1 (k, way))))
 
       by_parents : is_count (length list) ≡ true → (b : Bool) → any (is_missing (length list)) list ≡ b → PlanGives list made.number
       by_parents count true e =
@@ -91,14 +91,14 @@ module _ (list : List ℕ) where
 
   none_missing : Listed list → any (is_missing (length list)) list ≡ false
   none_missing listed =
-      not_found _ (λ found.
+      false_from_ne_true _ (λ found.
       let missing = (missing_exactly list).0 found in
       omega (arith, listed.there missing.0 missing.1 missing.2, missing.3))
 
   pub planned_free : Listed list → ((k : ℕ) → Ancestor list k k → ⊥) → made ≡ record { number = 0; contexts = contexts_of test (length list) }
   planned_free listed free =
       planned_all list test ((count_exactly (length list)).1 (listed.some, listed.few)) (none_missing listed)
-      (not_found _ (λ found. let at = (cycle_found list).0 found in free at.0 at.1))
+      (false_from_ne_true _ (λ found. let at = (cycle_found list).0 found in free at.0 at.1))
 
   given : {n : ℕ} → PlanGives list n → made.number ≡ n
   given (none_given h) = rw (planned_count list test (rw h))
@@ -144,8 +144,8 @@ module _ (list : List ℕ) where
 
         there : (b : Bool) → ltb j 16 ≡ b → holds (global_context test k) j ≡ true → (j ≡ k) ⊎ Ancestor list k j
         there true e held =
-            ⊎_map (eqb-true j k) (test_tells k j).0 (either (eqb j k) (test k j) (sym (within (ltb-true j 16 e)) ∙ held))
-        there false e held = absurd (never (no_domain_held (global_context test k) j (ltb-false j 16 e)) held)
+            ⊎_map (eqb-true j k) (test_tells k j).0 (or_cases (eqb j k) (test k j) (sym (within (ltb-true j 16 e)) ∙ held))
+        there false e held = absurd (both_ways _ (no_domain_held (global_context test k) j (ltb-false j 16 e)) held)
 
         back : (j ≡ k) ⊎ Ancestor list k j → holds (global_context test k) j ≡ true
         back (inl same) = within (omega (arith, listed.0.few)) ∙ rw (eq-eqb j k same)
@@ -184,7 +184,7 @@ module _ (list : List ℕ) where
         → (a ≡ b → ⊥) → (Ancestor list a b → ⊥) → (Ancestor list b a → ⊥) → bit_and (get_or made.contexts a 0) (get_or made.contexts b 0) ≡ 0
     unrelated_apart a b here there differ under over =
         held_alike _ _ (omega (arith, and_le_l (get_or made.contexts a 0) (get_or made.contexts b 0), small a here)) (omega arith) (λ s _.
-        not_found _ (λ held.
+        false_from_ne_true _ (λ held.
         let both = both_held (get_or made.contexts a 0) (get_or made.contexts b 0) s held in
         clash s ((context_exactly a s here).0 both.0) ((context_exactly b s there).0 both.1)))
       where

@@ -9,13 +9,14 @@ use borrow.Author.Tests.{eqb-true, eq-eqb, ne_eqb, ltb-true, ltb-false, lt-ltb, 
 use lib.Dec.{eqb, ltb}
 use lib.ListN.{length, get_or, set}
 use native.Mathlib.Omega.{arith}
+use Rattle.std.proofs.lemmas.Bool.{or_cases}
 use Rattle.rules.specs.Domains.{domain_bit, with_bit}
 use Rattle.rules.specs.Refusals.{pick}
 use Rattle.rules.proofs.Bits.{or_twice}
 use Rattle.planner.specs.Ancestors.{no_parent, is_parent, Ancestor, parent, above}
 use Rattle.planner.specs.Plan.{each}
 use Rattle.planner.specs.Ways.{ends, marked}
-use Rattle.planner.proofs.Ancestry.{parent_stands, either}
+use Rattle.planner.proofs.Ancestry.{parent_stands}
 use Rattle.planner.proofs.Each.{each_at, each_same, each_set}
 use Rattle.planner.proofs.Forests.{first_parent, from_parent, ancestor_over}
 use Rattle.planner.proofs.Found.{own_place}
@@ -124,7 +125,7 @@ module _ (list : List ℕ) (few : length list ≤ 16) (there : (p k : ℕ) → i
           let inside = ltb-true up (length list) e in
           let h = in_list at inside in
           let more = rest inside end in (
-            (λ on. ⊎_map (eqb-true a at) (λ on. ⊎_elim (λ same. rw same (parent h)) (λ way. ancestor_over list way (parent h)) (more.0 on)) (either (eqb a at) (on_way list left up a) on)),
+            (λ on. ⊎_map (eqb-true a at) (λ on. ⊎_elim (λ same. rw same (parent h)) (λ way. ancestor_over list way (parent h)) (more.0 on)) (or_cases (eqb a at) (on_way list left up a) on)),
             ⊎_elim (λ same. rw (eq-eqb a at same))
                 (λ way. rw (more.1 (⊎_map (λ same. sym same) (λ high. high) (from_parent list up h way))) (or-true (eqb a at))),
           )

@@ -5,7 +5,11 @@ use Rattle.rules.specs.Refusals.{Check, ◌⇒◌, first, pick}
 use Rattle.machine.specs.Calls.{any}
 use Rattle.image.specs.Description.{pad}
 use Rattle.planner.specs.Ancestors.{no_parent, is_ancestor}
-use Rattle.planner.specs.declared.Planned.{Planned}
+
+-- RULES 11.3, 11.4: a plan: its number, and the global context of each context, in sixteen places
+pub record Planned : Type 0 where
+  pub number : ℕ
+  pub contexts : List ℕ
 
 module _ {A : Type 0} where
   -- what belongs to 0, to 1 and so on, to each number below n

@@ -3,52 +3,54 @@
 // line: which list it is, counted from 1, the number of its plan, and the sixteen places in hexadecimal.
 #![tactic(auto)]
 
-ghost use Rattle.std.specs.Prelude.{◌≡◌, ◌≤◌, length, IfOk};
+ghost use Rattle.std.specs.Prelude.{◌≡◌, ◌≤◌, length, replicate, IfOk};
+ghost use Rattle.rules.specs.Refusals.{number_of, given_or};
 ghost use Rattle.planner.specs.Plan.{plan_of};
 
 use image::bytes::word_at;
 use input::read_full;
-use planner::{Planned, plan};
+use planner::plan;
+use rules::{Refusal, number_of};
 use std::io;
 
 // Prints contexts in hexadecimal, a space before each, and ends the line; answers how many they are.
 fn print_contexts(rt: &impl Print, contexts: &[u16]) -> io::Result<usize>
     ensures { IfOk result (λ count. count ≡ length contexts.now) }
 {
-    let mut i: usize = 0;
-    while i < contexts.len() {
-        print!(rt; " {:04x}", contexts[i])?;
-        i += 1;
+    let mut count = 0;
+    for context in contexts {
+        print!(rt; " {context:04x}")?;
+        count += 1;
     }
     println!(rt)?;
-    Ok(i)
+    Ok(count)
 }
 
 // Plans a list, prints the plan, and hands it back.
-fn print_plan(rt: &impl Print, list: &[u8], which: u64) -> io::Result<Planned>
-    ensures { IfOk result (λ planned. planned ≡ plan_of list.now) }
+fn print_plan(rt: &impl Print, list: &[u8], which: u64) -> io::Result<Result<[u16; 16], Refusal>>
+    ensures number { IfOk result (λ planned. number_of planned ≡ (plan_of list.now).number) }
+    ensures contexts { IfOk result (λ planned. given_or (replicate 16 0) planned ≡ (plan_of list.now).contexts) }
 {
     let planned = plan(list);
-    print!(rt; "{which} {}", planned.number)?;
-    let contexts = planned.contexts;
-    print_contexts(rt, &contexts)?;
+    print!(rt; "{which} {}", number_of(planned))?;
+    print_contexts(rt, &planned.unwrap_or([0; 16]))?;
     Ok(planned)
 }
 
-// Plans the lists one after another, and answers how many bytes there are.
+// Plans the lists one after another, and answers how many bytes there are. Each list is as long as stands before it, so no `for` knows where it ends.
 fn print_plans(rt: &impl Print, bytes: &[u8]) -> io::Result<usize>
     requires { length bytes.now ≤ 65536 }
     ensures { IfOk result (λ count. count ≡ length bytes.now) }
 {
-    let mut at: usize = 0;
+    let mut rest = bytes;
     let mut which: u64 = 1;
-    while at < bytes.len() {
-        let end = at + 2 + word_at(bytes, at as u32) as usize;
-        if bytes.len() < end {
+    while let Some((head, tail)) = rest.split_at_checked(2) {
+        let count = usize::from(word_at(head, 0));
+        let Some((list, others)) = tail.split_at_checked(count) else {
             return Ok(bytes.len());
-        }
-        print_plan(rt, &bytes[at + 2..end], which)?;
-        at = end;
+        };
+        let _ = print_plan(rt, list, which)?;
+        rest = others;
         which += 1;
     }
     Ok(bytes.len())

@@ -6,8 +6,4 @@ use Rattle.leastmask.proofs.store_pairs.Goals as goal
 
 pub loop-i-preserved : goal.loop-i-preserved
 loop-i-preserved c =
-    let l = c.loop-i in (
-      omega arith,
-      rw (l.invariant.1, c.pair_at.ensures)
-          (entries_stored 4 (pair_at c.args.bytes.now) c.args.pairs.now l.i (omega (arith, c.requires.bytes_in_bounds))),
-    )
+    rw (c.loop-i.invariant, c.pair_at.ensures) (entries_stored 4 (pair_at c.args.bytes.now) c.args.pairs.now c.loop-i.i (omega (arith, c.requires.bytes_in_bounds)))
