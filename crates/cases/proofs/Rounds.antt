@@ -1,4 +1,5 @@
 -- The parts of a round: a call that a record was decoded to, one record more of those that are left, and what stands in the buffer after a write.
+use Rattle.std.specs.Prelude.{Option, Some}
 use Prim.Native.Nat.{ℕ, ◌+◌, ◌≤◌}
 use mathlib.Core.Path.{◌≡◌, refl}
 use mathlib.Core.List.{List}
@@ -12,13 +13,11 @@ use Rattle.machine.specs.declared.record.Call.{Call}
 use Rattle.image.specs.Bytes.{byte_at, word_at}
 use Rattle.image.specs.Write.{written_bytes, written_of, buffer_after}
 use Rattle.run.specs.Records.{call_of_kind, calls_of, step_by, step_of}
-use Rattle.run.specs.declared.records.Decoded.{Decoded}
-use Rattle.run.specs.declared.records.Decoded.TheVariants.{Known}
 use Rattle.run.proofs.Steps.{first_record}
 use Rattle.cases.specs.Writing.{machine_after}
 
 -- the call that a record was decoded to is its step
-pub asked : (m : Machine) (call : Call) {r : Answered} {decoded : Decoded} {named : Call} → r ≡ call_of m call → decoded ≡ Known named → named ≡ call
+pub asked : (m : Machine) (call : Call) {r : Answered} {decoded : Option Call} {named : Call} → r ≡ call_of m call → decoded ≡ Some named → named ≡ call
     → r ≡ step_of m decoded
 unfolding step_by
 asked m call answer decodes names = rw (decodes, names) answer
