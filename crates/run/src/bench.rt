@@ -8,10 +8,10 @@ ghost use Rattle.image.specs.Bytes.{word_at};
 ghost use Rattle.run.specs.Records.{calls_of};
 ghost use Rattle.run.specs.Run.{image_of, call_bytes, steps_from, numbers_of, reports_of, sent, sent_reports, name_of};
 
-use crate::records::{decode, step};
+use crate::records::{decode, silent, step};
 use image::bytes::word_at;
 use image::load;
-use machine::record::{Answered, Machine, Report};
+use machine::record::{Machine, Report};
 
 // Where the calls of an input start: past its image, or at its end.
 pub fn calls_start(input: &[u8]) -> usize
@@ -60,11 +60,7 @@ fn answer_calls(start: Machine, calls: &[u8], answers: &mut [u8], names: &mut [u
 {
     let mut fields = start.fields;
     let mut saved = start.saved;
-    let mut answered = Answered {
-        number: 0,
-        machine: start,
-        report: Report::Nothing,
-    };
+    let mut answered = silent(start, 0);
     let (records, _) = calls.as_chunks::<6>();
     for (i, record) in records.iter().enumerate() {
         answered = step(answered.machine, &mut fields, &mut saved, decode(*record));

@@ -48,7 +48,7 @@ pub fn decode(bytes: [u8; 6]) -> Option<Call>
 }
 
 // What is given back where no more than a number is answered.
-fn silent(machine: Machine, number: u8) -> Answered
+pub fn silent(machine: Machine, number: u8) -> Answered
     ensures { result ≡ silent number machine }
 {
     Answered {
@@ -74,23 +74,31 @@ pub fn step(
         return silent(machine, 18);
     };
     match call {
-        Call::Access(width, right, address) => machine.access_lent(fields, width, right, address),
+        Call::Access(width, right, address) => return machine.access_lent(
+            fields, width, right, address,
+        ),
         Call::Grant(right, page, domain) => {
-            silent(machine, machine.change_lent(fields, true, right, page, domain))
+            return silent(
+                machine,
+                machine.change_lent(fields, true, right, page, domain),
+            );
         }
         Call::Revoke(right, page, domain) => {
-            silent(machine, machine.change_lent(fields, false, right, page, domain))
+            return silent(
+                machine,
+                machine.change_lent(fields, false, right, page, domain),
+            );
         }
-        Call::SetMask(mask) => machine.set_mask_unchecked(mask),
-        Call::Enter => machine.enter_lent(saved),
-        Call::Return => machine.leave_lent(saved),
-        Call::Switch(program) => machine.switch_lent(saved, program),
+        Call::SetMask(mask) => return machine.set_mask_unchecked(mask),
+        Call::Enter => return machine.enter_lent(saved),
+        Call::Return => return machine.leave_lent(saved),
+        Call::Switch(program) => return machine.switch_lent(saved, program),
         Call::StoreField(right, page, bits) => {
-            silent(machine, machine.store_lent(fields, right, page, bits))
+            return silent(machine, machine.store_lent(fields, right, page, bits));
         }
-        Call::StoreContext(bits) => machine.store_context_unchecked(bits),
-        Call::StoreMask(bits) => machine.store_mask_unchecked(bits),
-        Call::StoreMode(mode) => machine.store_mode_unchecked(mode),
-        Call::AskViolation => machine.ask_violation_unchecked(),
+        Call::StoreContext(bits) => return machine.store_context_unchecked(bits),
+        Call::StoreMask(bits) => return machine.store_mask_unchecked(bits),
+        Call::StoreMode(mode) => return machine.store_mode_unchecked(mode),
+        Call::AskViolation => return machine.ask_violation_unchecked(),
     }
 }
