@@ -21,7 +21,7 @@ pub fn calls_start(input: &[u8]) -> usize
 }
 
 // The two parts of an input (RULES 6.1 to 6.3): its image, and the bytes of its calls.
-fn split_input(input: &[u8]) -> (&[u8], &[u8])
+pub fn split_input(input: &[u8]) -> (&[u8], &[u8])
     ensures image { result.0.now ≡ image_of input.now }
     ensures calls { result.1.now ≡ call_bytes input.now }
 {

@@ -1,21 +1,21 @@
--- `cases::writing::make_calls`: a record more is `one_more`, and where fewer than six bytes are left there is none.
-use Rattle.std.proofs.Common.{sym, ◌∙◌, arith, drop, length-drop}
-use Rattle.image.proofs.Stored.{part_from}
-use Rattle.run.proofs.Steps.{no_record}
+-- `cases::writing::make_calls`: a record more is `one_more`, and past the last there is none.
+use Rattle.std.proofs.Common.{◌≡◌, sym, ◌∙◌, arith, [], drop}
+use lib.ListN.{drop_of_length-le}
+use Rattle.run.specs.Records.{calls_of}
+use Rattle.run.proofs.Steps.{count_calls}
 use Rattle.cases.specs.Writing.{machine_after}
 use Rattle.cases.proofs.Rounds.{one_more}
 use Rattle.cases.proofs.writing.make_calls.Goals as goal
 
-pub loop-at-preserved : goal.loop-at-preserved
-loop-at-preserved g c =
-    let l = c.loop-at in (
-      omega arith,
-      rw (c.call_on-answered.ensures, c.record_of.ensures, part_from)
-          (sym (one_more l.answered.machine c.args.calls.now l.at (omega arith)) ∙ l.invariant.1),
-    )
+pub loop-i-preserved : goal.loop-i-preserved
+loop-i-preserved g c =
+    let l = c.loop-i in
+    let more = one_more l.machine c.args.calls.now l.i (omega (arith, c.as_chunks.ensures.front_len)) (rw c.as_chunks.ensures.front at c.decode-call.ensures) in
+    rw c.call_on-answered.ensures (sym more ∙ l.invariant)
 
 pub returns : goal.returns
 unfolding machine_after
 returns g c =
-    let l = c.loop-at in
-    rw (no_record (drop l.at c.args.calls.now) (simp length-drop (omega arith))) at l.invariant.1
+    let calls = calls_of c.args.calls.now in
+    let none : drop c.loop-i.i calls ≡ [] = drop_of_length-le calls (omega (arith, count_calls c.args.calls.now, c.as_chunks.ensures.front_len)) in
+    rw none at c.loop-i.invariant
