@@ -1,18 +1,15 @@
 -- The parts of a round: one record more of those that are left, and what stands in the buffer after a write.
-use Rattle.std.specs.Prelude.{Option, Some}
+use Rattle.std.specs.Prelude.{Option}
 use Prim.Native.Nat.{ℕ, ◌+◌, ◌/◌, ◌≤◌, ◌<◌}
 use mathlib.Core.Path.{◌≡◌, refl}
 use mathlib.Core.List.{List, [], ◌∷◌}
 use native.Mathlib.Omega.{arith}
-use lib.ListN.{length, get_or, take, drop, length-drop, length-append}
-use lib.Seq.{take_at, drop-drop}
-use Rattle.machine.specs.Calls.{call_of}
+use lib.ListN.{length, get_or, take, drop, length-append}
+use lib.Seq.{take_at}
 use Rattle.machine.specs.declared.record.Machine.{Machine}
-use Rattle.machine.specs.declared.record.Answered.{Answered}
 use Rattle.machine.specs.declared.record.Call.{Call}
-use Rattle.image.specs.Bytes.{byte_at, word_at}
 use Rattle.image.specs.Write.{written_bytes, written_of, buffer_after}
-use Rattle.run.specs.Records.{call_of_kind, calls_of, step_by, step_of}
+use Rattle.run.specs.Records.{calls_of, step_of}
 use Rattle.run.proofs.Steps.{next_call}
 use Rattle.std.specs.Simd.{first_chunks}
 use Rattle.cases.specs.Writing.{machine_after}

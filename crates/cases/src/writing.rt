@@ -82,6 +82,7 @@ fn print_call(
 }
 
 // Makes the calls one after another, each on the machine that the one before it left, and prints what each answers.
+#[tactic(auto, using(crate::proofs::Rounds::one_more, run::proofs::Steps::none_left), unfolding(crate::specs::Writing::machine_after))]
 fn make_calls(rt: &impl Print, start: Machine, calls: &[u8]) -> io::Result<Machine>
     ensures { IfOk result (λ machine. machine ≡ machine_after start (calls_of calls.now)) }
 {
@@ -157,6 +158,7 @@ fn print_round(rt: &impl Print, bytes: &[u8], calls: &[u8], buffer: &mut [u8]) -
 }
 
 // The two rounds, the second on the bytes that the first wrote, with the same calls; answers how many bytes the second wrote.
+#[tactic(auto, using(crate::proofs::Rounds::first_written), unfolding(crate::specs::Writing::again_of))]
 fn print_rounds(
     rt: &impl Print,
     bytes: &[u8],

@@ -4,13 +4,12 @@ use Prim.Native.Nat.{ℕ, zero, suc, ◌+◌, ◌*◌, ◌/◌, ◌≤◌, ◌<�
 use mathlib.Core.Path.{◌≡◌, refl, ap, sym, ◌∙◌}
 use mathlib.Core.Bool.{Bool, true, false}
 use mathlib.Core.List.{List, [], ◌∷◌}
-use native.Mathlib.Nat.{add-zero}
 use native.Mathlib.Numerals.{add-one}
 use native.Mathlib.Omega.{arith}
 use borrow.Author.Tests.{eqb-true, eqb-false}
 use lib.Dec.{eqb}
-use lib.ListN.{length, get_or, set, drop, length-drop, get_or-eq_default}
-use lib.Seq.{get_or-drop, drop-drop, sets}
+use lib.ListN.{length, get_or, set, drop, get_or-eq_default, drop_of_length-le}
+use lib.Seq.{sets}
 use Rattle.std.specs.Simd.{first_chunks}
 use Rattle.image.specs.Bytes.{word_of}
 use Rattle.machine.specs.Machine.{is_sound, with_lent}
@@ -76,7 +75,7 @@ pub next_call : (bytes : List ℕ) (i : ℕ) {call : Option Call} → i < length
     → drop i (calls_of bytes) ≡ call ∷ drop (i + 1) (calls_of bytes)
 next_call bytes i {call} h is = rw add-one (chunk_call (length bytes / 6) bytes i call h (omega arith) is)
 
--- one call for every six bytes, and one step for every call
+-- one call for every six bytes
 pub count_calls : (l : List ℕ) → length (calls_of l) ≡ length l / 6
 unfolding calls_of
 count_calls [] = refl
@@ -87,6 +86,11 @@ count_calls (k ∷ r ∷ a ∷ a' ∷ []) = refl
 count_calls (k ∷ r ∷ a ∷ a' ∷ b ∷ []) = refl
 count_calls (k ∷ r ∷ a ∷ a' ∷ b ∷ b' ∷ rest) = let more = count_calls rest in omega arith
 
+-- past the last there is none
+pub none_left : (bytes : List ℕ) (i : ℕ) → length bytes / 6 ≤ i → drop i (calls_of bytes) ≡ []
+none_left bytes i past = drop_of_length-le (calls_of bytes) (omega (arith, count_calls bytes))
+
+-- one step for every call
 pub count_steps : (m : Machine) (calls : List (Option Call)) → length (steps_from m calls) ≡ length calls
 unfolding steps_from
 count_steps m [] = refl

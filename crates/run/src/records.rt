@@ -74,9 +74,9 @@ pub fn step(
         return silent(machine, 18);
     };
     match call {
-        Call::Access(width, right, address) => return machine.access_lent(
-            fields, width, right, address,
-        ),
+        Call::Access(width, right, address) => {
+            return machine.access_lent(fields, width, right, address);
+        }
         Call::Grant(right, page, domain) => {
             return silent(
                 machine,

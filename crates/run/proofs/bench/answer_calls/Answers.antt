@@ -1,15 +1,12 @@
 -- `run::bench::answer_calls` meets its contract: a turn takes the next record, stores its answer and what it names, and leaves a sound machine.
 use Prim.Native.Nat.{◌+◌}
-use mathlib.Core.Path.{◌≡◌, refl, ap, sym, ◌∙◌}
-use mathlib.Core.List.{List, [], map}
+use mathlib.Core.Path.{ap, sym, ◌∙◌}
+use mathlib.Core.List.{List, map}
 use native.Mathlib.Omega.{arith}
-use borrow.Author.Rules.{rules}
-use lib.ListN.{drop, drop_of_length-le}
 use Rattle.machine.specs.Machine.{is_sound, with_lent}
 use Rattle.machine.specs.declared.record.Answered.{Answered}
-use Rattle.run.specs.Records.{calls_of}
 use Rattle.run.specs.Run.{steps_from, numbers_of, reports_of, name_of}
-use Rattle.run.proofs.Steps.{count_calls, next_step, whole, turn, sound_step, step_sound}
+use Rattle.run.proofs.Steps.{next_step, none_left, whole, turn, sound_step, step_sound}
 use Rattle.run.proofs.bench.answer_calls.Goals as goal
 
 pub loop-i-preserved : goal.loop-i-preserved
@@ -28,6 +25,5 @@ loop-i-preserved c =
 pub returns : goal.returns
 unfolding steps_from
 returns c =
-    let calls = calls_of c.args.calls.now in
-    let left : drop c.loop-i.i calls ≡ [] = drop_of_length-le calls (omega (arith, count_calls c.args.calls.now, c.as_chunks.ensures.front_len)) in
+    let left = none_left c.args.calls.now c.loop-i.i (omega (arith, c.as_chunks.ensures.front_len)) in
     record { answers_after = rw left at c.loop-i.invariant.answered; names_after = rw left at c.loop-i.invariant.named }

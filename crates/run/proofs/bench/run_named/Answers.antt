@@ -1,9 +1,8 @@
 -- `run::bench::run_named` meets its contract: in each of its four ends the count and the two buffers are what is sent. The loop starts on a machine
 -- that a load accepted, which is sound.
-use mathlib.Core.Path.{◌≡◌, refl, ap, sym, ◌∙◌}
+use mathlib.Core.Path.{◌≡◌, refl, sym, ◌∙◌}
 use mathlib.Core.List.{[]}
 use lib.ListN.{length}
-use Rattle.image.specs.Load.{load_of}
 use Rattle.image.proofs.Loaded.{loaded}
 use Rattle.run.specs.Run.{answers_of, image_of, loaded_of}
 use Rattle.run.proofs.Sent.{answers_count, all_sends, long_sends, short_sends, steps_all, steps_none}
