@@ -9,6 +9,7 @@ ghost use Rattle.cases.specs.Writing.{room_of, digit_of, digits_of, machine_afte
 use image::bytes::word_at;
 use image::{load, write};
 use machine::{Answered, Call, Machine, Report};
+use rules::Refusal;
 use run::{decode, split_input};
 use std::io;
 
@@ -19,7 +20,7 @@ fn call_on(machine: Machine, call: Option<Call>) -> Answered
 {
     match call {
         None => Answered {
-            number: 18,
+            number: Refusal::NoSuchCall as u8,
             machine,
             report: Report::Nothing,
         },

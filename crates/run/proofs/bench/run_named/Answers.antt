@@ -12,8 +12,8 @@ use Rattle.run.proofs.bench.run_named.Goals as goal
 pub returns-then-input-gt32768 : goal.returns-then-input-gt32768
 returns-then-input-gt32768 c = long_sends _ _ _ c.if-input-gt32768.true
 
-load : (c : After-answer_count-count) → c.load-loaded.result ≡ loaded_of c.args.input.now
-load c = rw c.split_input.ensures.image at c.load-loaded.ensures
+load : (c : After-answer_count-count) → c.load_image-loaded.result ≡ loaded_of c.args.input.now
+load c = rw c.split_input.ensures.image at c.load_image-loaded.ensures
 
 counted : (c : After-answer_count-count) → c.answer_count-count.result ≡ length (answers_of c.args.input.now)
 counted c = c.answer_count-count.ensures ∙ rw (load c, c.split_input.ensures.calls) (sym (answers_count c.args.input.now))

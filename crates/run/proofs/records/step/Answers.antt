@@ -20,14 +20,14 @@ returns-in-Access c =
 pub returns-in-Grant : goal.returns-in-Grant
 unfolding checks_of change_checks effect_of
 returns-in-Grant c =
-    let change = c.change_lent.ensures in
+    let change = c.change_lent-number.ensures in
     rw c.silent-in-Grant.ensures
     (made _ _ _ (Grant _ _ _) (on_fields_alone _ _ _ (Grant _ _ _) (refl, refl) (change_alone _ true _ _ _) change.value change.fields_after) c.in-Some.is c.in-Grant.is)
 
 pub returns-in-Revoke : goal.returns-in-Revoke
 unfolding checks_of change_checks effect_of
 returns-in-Revoke c =
-    let change = c.change_lent-in-Revoke.ensures in
+    let change = c.change_lent-number-in-Revoke.ensures in
     rw c.silent-in-Revoke.ensures
     (made _ _ _ (Revoke _ _ _) (on_fields_alone _ _ _ (Revoke _ _ _) (refl, refl) (change_alone _ false _ _ _) change.value change.fields_after) c.in-Some.is c.in-Revoke.is)
 
@@ -57,7 +57,7 @@ returns-in-Switch c =
 pub returns-in-StoreField : goal.returns-in-StoreField
 unfolding checks_of effect_of
 returns-in-StoreField c =
-    let store = c.store_lent.ensures in
+    let store = c.store_lent-number.ensures in
     rw c.silent-in-StoreField.ensures
     (made _ _ _ (StoreField _ _ _) (on_fields_alone _ _ _ (StoreField _ _ _) (refl, refl) (store_alone _ _ _ _) store.value store.fields_after) c.in-Some.is c.in-StoreField.is)
 
