@@ -1,4 +1,6 @@
 -- What the definitions of the cases of writing come to on the sample node and on a small one: all is computed and written out.
+use Rattle.std.specs.Prelude.{Option, Some, None}
+use Rattle.machine.specs.declared.record.Call.{Call}
 use mathlib.Core.Path.{◌≡◌, refl}
 use mathlib.Core.Bool.{Bool, true, false}
 use mathlib.Core.List.{List, [], ◌∷◌, ◌++◌, map}
@@ -20,8 +22,6 @@ use Rattle.image.specs.Write.{description_of, write_checks, written_bytes, writt
 use Rattle.image.proofs.Pinned.{nothing}
 use Rattle.run.specs.Records.{call_of_kind, calls_of, step_by, step_of}
 use Rattle.run.specs.Run.{image_of, call_bytes}
-use Rattle.run.specs.declared.records.Decoded.{Decoded}
-use Rattle.run.specs.declared.records.Decoded.TheVariants.{Known, Unknown}
 use Rattle.cases.specs.Writing.{room_of, digit_of, digits_of, machine_after, held_of, again_of, rewritten_of}
 
 -- the room stands in two bytes, high byte first, of which some may be missing, and is 640 at most
@@ -66,13 +66,13 @@ small depth mask mode = whole 1 5 (1 ∷ 0 ∷ []) (live 1 mask mode false) dept
 pub calls_followed :
     let m = small 0 1 User in
     (machine_after m [] ≡ m)
-    × (machine_after m (Known (SetMask 7) ∷ Unknown ∷ Known Enter ∷ []) ≡ small 1 7 Privileged)
-    × (machine_after m (Known Enter ∷ Known (SetMask 7) ∷ []) ≡ small 1 1 Privileged)
+    × (machine_after m (Some (SetMask 7) ∷ None ∷ Some Enter ∷ []) ≡ small 1 7 Privileged)
+    × (machine_after m (Some Enter ∷ Some (SetMask 7) ∷ []) ≡ small 1 1 Privileged)
 unfolding machine_after step_by call_of checks_of effect_of entered after is_sound
 calls_followed = (refl, refl, refl)
 
 -- calls on any machine, one step: whatever the answer, the next one is made on the machine that it left
-pub call_followed : (m : Machine) (call : Decoded) (rest : List Decoded)
+pub call_followed : (m : Machine) (call : Option Call) (rest : List (Option Call))
     → (machine_after m [] ≡ m) × (machine_after m (call ∷ rest) ≡ machine_after (step_of m call).machine rest)
 unfolding machine_after
 call_followed m call rest = (refl, refl)

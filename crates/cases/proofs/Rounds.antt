@@ -1,35 +1,25 @@
--- The parts of a round: a call that a record was decoded to, one record more of those that are left, and what stands in the buffer after a write.
-use Prim.Native.Nat.{ℕ, ◌+◌, ◌≤◌}
+-- The parts of a round: one record more of those that are left, and what stands in the buffer after a write.
+use Rattle.std.specs.Prelude.{Option}
+use Prim.Native.Nat.{ℕ, ◌+◌, ◌/◌, ◌≤◌, ◌<◌}
 use mathlib.Core.Path.{◌≡◌, refl}
-use mathlib.Core.List.{List}
+use mathlib.Core.List.{List, [], ◌∷◌}
 use native.Mathlib.Omega.{arith}
-use lib.ListN.{length, take, drop, length-drop, length-append}
-use lib.Seq.{take_at, drop-drop}
-use Rattle.machine.specs.Calls.{call_of}
+use lib.ListN.{length, get_or, take, drop, length-append}
+use lib.Seq.{take_at}
 use Rattle.machine.specs.declared.record.Machine.{Machine}
-use Rattle.machine.specs.declared.record.Answered.{Answered}
 use Rattle.machine.specs.declared.record.Call.{Call}
-use Rattle.image.specs.Bytes.{byte_at, word_at}
 use Rattle.image.specs.Write.{written_bytes, written_of, buffer_after}
-use Rattle.run.specs.Records.{call_of_kind, calls_of, step_by, step_of}
-use Rattle.run.specs.declared.records.Decoded.{Decoded}
-use Rattle.run.specs.declared.records.Decoded.TheVariants.{Known}
-use Rattle.run.proofs.Steps.{first_record}
+use Rattle.run.specs.Records.{calls_of, step_of}
+use Rattle.run.proofs.Steps.{next_call}
+use Rattle.std.specs.Simd.{first_chunks}
 use Rattle.cases.specs.Writing.{machine_after}
 
--- the call that a record was decoded to is its step
-pub asked : (m : Machine) (call : Call) {r : Answered} {decoded : Decoded} {named : Call} → r ≡ call_of m call → decoded ≡ Known named → named ≡ call
-    → r ≡ step_of m decoded
-unfolding step_by
-asked m call answer decodes names = rw (decodes, names) answer
-
 -- one record more
-pub one_more : (m : Machine) (s : List ℕ) (at : ℕ) → at + 6 ≤ length s
-    → let l = drop at s in
-    machine_after m (calls_of l)
-    ≡ machine_after (step_of m (call_of_kind (byte_at l 0) (byte_at l 1) (word_at l 2) (word_at l 4))).machine (calls_of (drop (at + 6) s))
+pub one_more : (m : Machine) (bytes : List ℕ) (i : ℕ) {call : Option Call} → i < length bytes / 6
+    → calls_of (get_or (first_chunks 6 (length bytes / 6) bytes) i []) ≡ call ∷ []
+    → machine_after m (drop i (calls_of bytes)) ≡ machine_after (step_of m call).machine (drop (i + 1) (calls_of bytes))
 unfolding machine_after
-one_more m s at h = rw (first_record (drop at s) (simp length-drop (omega arith)), drop-drop)
+one_more m bytes i h is = rw (next_call bytes i h is)
 
 -- the bytes that a write says it wrote are there, and are what is written
 pub first_written : (m : Machine) (buffer : List ℕ) {count : ℕ} {after : List ℕ} → count ≡ (written_of m (length buffer)).count → after ≡ buffer_after m buffer

@@ -1,6 +1,7 @@
 -- The cases of writing (src/writing.rt): the room, the machine that a round writes, and the digits of what is printed. They are for tests: no
 -- rule.
-use Rattle.std.specs.Prelude.{ℕ, ◌+◌, ◌/◌, ◌%◌, min, List, [], ◌∷◌, eqb, ltb, drop}
+use Rattle.std.specs.Prelude.{ℕ, ◌+◌, ◌/◌, ◌%◌, min, Option, List, [], ◌∷◌, eqb, ltb, drop}
+use Rattle.machine.specs.declared.record.Call.{Call}
 use Rattle.rules.specs.Refusals.{pick}
 use Rattle.machine.specs.declared.record.Machine.{Machine}
 use Rattle.image.specs.Bytes.{word_at}
@@ -8,7 +9,6 @@ use Rattle.image.specs.Load.{load_of}
 use Rattle.image.specs.Write.{written_bytes, written_of}
 use Rattle.run.specs.Records.{calls_of, step_of}
 use Rattle.run.specs.Run.{image_of, call_bytes}
-use Rattle.run.specs.declared.records.Decoded.{Decoded}
 
 -- how long the lent buffer of a case is: its first two bytes say it, and 640 is the most
 abbrev pub room_of : List ℕ → ℕ
@@ -23,7 +23,7 @@ abbrev pub digits_of : ℕ → List ℕ
 digits_of byte = digit_of (byte / 16) ∷ digit_of (byte % 16) ∷ []
 
 -- the machine after calls, each made by value on the one that was given back before it
-unfoldable pub machine_after : Machine → List Decoded → Machine
+unfoldable pub machine_after : Machine → List (Option Call) → Machine
 machine_after m [] = m
 machine_after m (call ∷ rest) = machine_after (step_of m call).machine rest
 

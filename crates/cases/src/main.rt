@@ -21,13 +21,14 @@ fn is_writing(bytes: &[u8], at: usize) -> bool
 }
 
 // Where the case at a place of the bytes ends.
-fn end_at(bytes: &[u8], at: u32) -> usize
+#[tactic(auto, unfolding(crate::specs::Cases::end_of))]
+fn end_at(bytes: &[u8], at: usize) -> usize
     requires { at ≤ 524288 }
     ensures { result ≡ end_of bytes.now at }
 {
-    let high = byte_at(bytes, 1 + at as usize);
-    let low = word_at(bytes, 2 + at);
-    at as usize + 4 + (65536 * (high as usize) + low as usize)
+    let high = byte_at(bytes, 1 + at);
+    let low = word_at(bytes, 2 + at as u32);
+    at + 4 + (65536 * usize::from(high) + usize::from(low))
 }
 
 // Prints the text of an input, and answers how long the input is.
@@ -40,33 +41,29 @@ fn print_text(rt: &impl Print, input: &[u8]) -> io::Result<usize>
     Ok(input.len())
 }
 
-// Prints the number of a case and what it gives, and answers how long it is.
-fn print_case(rt: &impl Print, case: &[u8], number: u64, writes: bool) -> io::Result<usize>
-    ensures { IfOk result (λ size. size ≡ length case.now) }
-{
-    println!(rt; "case {number}")?;
-    if writes {
-        print_writing(rt, case)?;
-    } else {
-        print_text(rt, case)?;
-    }
-    Ok(case.len())
-}
-
-// Runs the case at a place of the bytes, where they hold all of it, and answers where the next one stands.
+// Runs the case at a place of the bytes, where they hold all of it, and answers where the next one stands. Prints the number of the case and what it
+// gives.
+#[tactic(auto, using(crate::proofs::Places::end_past), unfolding(crate::specs::Cases::next_of))]
 fn run_case(rt: &impl Print, bytes: &[u8], at: usize, number: u64) -> io::Result<usize>
     requires { at ≤ 524288 }
     ensures { IfOk result (λ next. next ≡ next_of bytes.now at) }
 {
-    let end = end_at(bytes, at as u32);
-    if end <= bytes.len() {
-        let writes = is_writing(bytes, at);
-        return Ok(at + 4 + print_case(rt, &bytes[at + 4..end], number, writes)?);
+    let end = end_at(bytes, at);
+    if bytes.len() < end {
+        return Ok(bytes.len());
     }
-    Ok(bytes.len())
+    println!(rt; "case {number}")?;
+    let case = &bytes[at + 4..end];
+    if is_writing(bytes, at) {
+        print_writing(rt, case)?;
+    } else {
+        print_text(rt, case)?;
+    }
+    Ok(end)
 }
 
-// Runs the cases one after another, and answers where they end: at the end of the bytes.
+// Runs the cases one after another, and answers where they end: at the end of the bytes. A `while`, since each case says how far the next one is.
+#[tactic(auto, using(crate::proofs::Places::next_past))]
 fn run_cases(rt: &impl Print, bytes: &[u8]) -> io::Result<usize>
     requires { length bytes.now ≤ 524288 }
     ensures { IfOk result (λ end. end ≡ length bytes.now) }

@@ -1,7 +1,9 @@
 -- Requests one at a time: what is left to serve, and how many were refused so far.
 use Prim.Native.Nat.{ℕ, ◌+◌, ◌≤◌, ◌<◌}
-use mathlib.Core.Path.{◌≡◌}
-use mathlib.Core.Bool.{Bool, true, false}
+use mathlib.Core.Path.{◌≡◌, refl}
+use mathlib.Core.Bool.{Bool, true, false, not}
+use mir.Val.{bool_byte}
+use Rattle.std.specs.Prelude.{nat_eq}
 use mathlib.Core.List.{List}
 use native.Mathlib.Omega.{arith}
 use native.Mathlib.Numerals.{add-one}
@@ -12,7 +14,6 @@ use lib.Seq.{drop-cons}
 use Rattle.rules.specs.Refusals.{pick}
 use Rattle.machine.specs.Calls.{call_of}
 use Rattle.machine.specs.declared.record.Machine.{Machine}
-use Rattle.machine.specs.declared.record.Answered.{Answered}
 use Rattle.kernel.specs.Kernel.{call_for, served_of}
 use Rattle.kernel.specs.declared.Request.{Request}
 use Rattle.kernel.specs.declared.Served.{Served}
@@ -29,11 +30,10 @@ pub one_more : (m : Machine) (requests : List Request) (i refused : ℕ) (defaul
 unfolding served_of
 one_more m requests i refused default below = rw (add-one, drop-cons requests i default, add_assoc)
 
--- a request that was taken apart is the one that was asked
-pub asked : (m : Machine) (request known : Request) {r : Answered} → r ≡ call_of m (call_for known) → request ≡ known
-    → r ≡ call_of m (call_for request)
-asked m request known answer is = rw is answer
-
-pub refusal_most : (done : Bool) → pick done 0 1 ≤ 1
-refusal_most true = omega arith
-refusal_most false = omega arith
+-- a refusal counts as one, as the definition has it
+pub counted : (number : ℕ) → (bool_byte (not (nat_eq number 0)) ≡ pick (eqb number 0) 0 1) × (pick (eqb number 0) 0 1 ≤ 1)
+counted number = split (eqb number 0)
+  where
+    split : (done : Bool) → (bool_byte (not done) ≡ pick done 0 1) × (pick done 0 1 ≤ 1)
+    split true = (refl, omega arith)
+    split false = (refl, omega arith)

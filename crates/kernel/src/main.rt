@@ -2,8 +2,7 @@
 // docs/KERNEL.md goes through it. It prints what its calls answer on the sample node.
 #![tactic(auto)]
 
-ghost use Rattle.std.specs.Prelude.{true, false, ◌≡◌, ◌<◌, eqb, get_or, set, IfOk};
-ghost use Rattle.rules.specs.Refusals.{pick};
+ghost use Rattle.std.specs.Prelude.{true, false, ◌≡◌, ◌<◌, get_or, set, IfOk};
 ghost use Rattle.machine.specs.Calls.{call_of};
 ghost use Rattle.machine.specs.Machine.{is_sound, with_programs};
 ghost use Rattle.machine.specs.declared.record.Call.{Call};
@@ -14,6 +13,11 @@ ghost use Rattle.kernel.specs.Kernel.{call_for, begun_of, served_of};
 use image::load;
 use machine::{Answered, Domain, Machine, Page, Report, Width};
 use std::io;
+
+// The rights of an access, as the machine has their numbers.
+const READ: u8 = 0;
+
+const WRITE: u8 = 1;
 
 // What a program asks its kernel for: the accesses of its instructions, to one byte or to two, and its commands.
 #[derive(Clone, Copy)]
@@ -37,7 +41,7 @@ pub struct Begun {
 // How many requests of a list were refused, and the machine after the last.
 #[derive(Clone, Copy)]
 pub struct Served {
-    pub refused: u8,
+    pub refused: usize,
     pub machine: Machine,
 }
 
@@ -49,6 +53,7 @@ fn boot(image: &[u8]) -> Answered
 }
 
 // The turn of a program begins: interrupt entry, switch, return. On a sound machine at depth 0, for a program of the table, none is refused.
+#[tactic(auto, unfolding(crate::specs::Kernel::begun_of))]
 fn begin_turn(machine: Machine, program: u16) -> Begun
     ensures value { result ≡ begun_of machine program }
     ensures result_value { is_sound machine ≡ true → machine.depth ≡ 0 → program < machine.programs → (result.entry ≡ 0) × (result.switch ≡ 0) × (result.leave ≡ 0) }
@@ -56,12 +61,11 @@ fn begin_turn(machine: Machine, program: u16) -> Begun
     let entered = machine.enter();
     let switched = entered.machine.switch_to(program);
     let left = switched.machine.leave();
-    let after = left.machine;
     Begun {
         entry: entered.number,
         switch: switched.number,
         leave: left.number,
-        machine: after,
+        machine: left.machine,
     }
 }
 
@@ -78,53 +82,28 @@ fn serve(machine: Machine, request: Request) -> Answered
     ensures { result ≡ call_of machine (call_for request) }
 {
     match request {
-        Request::Read(width, address) => {
-            return machine.access(width, 0, address);
-        }
-        Request::Write(width, address) => {
-            return machine.access(width, 1, address);
-        }
-        Request::GrantRight(right, page, domain) => {
-            return machine.grant(right, page, domain);
-        }
-        Request::RevokeRight(right, page, domain) => {
-            return machine.revoke(right, page, domain);
-        }
-        Request::ReplaceMask(mask) => {
-            return machine.set_mask(mask);
-        }
+        Request::Read(width, address) => machine.access(width, READ, address),
+        Request::Write(width, address) => machine.access(width, WRITE, address),
+        Request::GrantRight(right, page, domain) => machine.grant(right, page, domain),
+        Request::RevokeRight(right, page, domain) => machine.revoke(right, page, domain),
+        Request::ReplaceMask(mask) => machine.set_mask(mask),
     }
 }
 
-// 1 for a number that refuses, 0 for the number of a call that was done.
-fn refusal(number: u8) -> u8
-    ensures { result ≡ pick (eqb number 0) 0 1 }
+// The requests of a turn, one after another, each on the machine that the one before it left. A request is refused where its number is not 0.
+fn serve_all(start: Machine, requests: &[Request]) -> Served
+    ensures { result ≡ served_of start requests.now }
 {
-    if number == 0 { 0 } else { 1 }
-}
-
-// The requests of a turn, one after another, each on the machine that the one before it left.
-fn serve_all(start: Machine, requests: [Request; 3]) -> Served
-    ensures { result ≡ served_of start requests }
-{
-    let mut answered = Answered {
-        number: 0,
+    let mut served = Served {
+        refused: 0,
         machine: start,
-        report: Report::Nothing,
     };
-    let mut refused: u8 = 0;
-    let mut i: usize = 0;
-    while i < 3 {
-        let request = requests[i];
-        answered = serve(answered.machine, request);
-        refused += refusal(answered.number);
-        i += 1;
+    for request in requests {
+        let answered = serve(served.machine, *request);
+        served.machine = answered.machine;
+        served.refused += usize::from(answered.number != 0);
     }
-    let after = answered.machine;
-    Served {
-        refused,
-        machine: after,
-    }
+    served
 }
 
 // Tells support who was denied what, within the interrupt that a violation brings: prints the last violation on a line, where the machine hands
@@ -133,23 +112,13 @@ fn tell_support(rt: &impl Print, machine: Machine) -> io::Result<Answered>
     ensures { IfOk result (λ asked. asked ≡ call_of machine Call.AskViolation) }
 {
     let asked = machine.ask_violation();
-    let report = asked.report;
-    let Report::Denied(violation) = report else {
-        return Ok(asked);
-    };
-    println!(rt;
-        "denied: program {}, right {}, address {}",
-        violation.program, violation.right, violation.address
-    )?;
+    if let Report::Denied(violation) = asked.report {
+        println!(rt;
+            "denied: program {}, right {}, address {}",
+            violation.program, violation.right, violation.address
+        )?;
+    }
     Ok(asked)
-}
-
-// Prints a number on a line of its own, and hands it back.
-fn print(rt: &impl Print, number: u8) -> io::Result<u8>
-    ensures { IfOk result (λ printed. printed ≡ number) }
-{
-    println!(rt; "{number}")?;
-    Ok(number)
 }
 
 // The sample node: a load, three requests of program 0 of which a violation and the one after it are refused, an interrupt in which support is told
@@ -162,33 +131,33 @@ fn main(rt: HostRuntime) -> io::Result<()> {
         0, 2, 0, 12, 0, 4, 0, 7, 0, 3, 0, 0, 8, 255, 255, 0,
     ];
     let loaded = boot(&image);
-    print(&rt, loaded.number)?;
+    println!(rt; "{}", loaded.number)?;
     let first = serve_all(
         loaded.machine,
-        [
+        &[
             Request::Read(Width::One, 16),
             Request::Read(Width::Two, 511),
             Request::ReplaceMask(7),
         ],
     );
-    print(&rt, first.refused)?;
+    println!(rt; "{}", first.refused)?;
     let interrupted = first.machine.enter();
     let asked = tell_support(&rt, interrupted.machine)?;
     let stored = store_current(asked.machine);
-    print(&rt, stored.number)?;
+    println!(rt; "{}", stored.number)?;
     let resumed = stored.machine.leave();
     let begun = begin_turn(resumed.machine, 1);
-    print(&rt, begun.entry)?;
-    print(&rt, begun.switch)?;
-    print(&rt, begun.leave)?;
+    println!(rt; "{}", begun.entry)?;
+    println!(rt; "{}", begun.switch)?;
+    println!(rt; "{}", begun.leave)?;
     let second = serve_all(
         begun.machine,
-        [
+        &[
             Request::Read(Width::Two, 511),
             Request::GrantRight(0, Page(2), Domain(4)),
             Request::Write(Width::One, 0),
         ],
     );
-    print(&rt, second.refused)?;
+    println!(rt; "{}", second.refused)?;
     Ok(())
 }

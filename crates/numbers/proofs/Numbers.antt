@@ -1,5 +1,6 @@
 -- Every answer of the core is a listed number, and 10 is none: an answer is the number of the first condition that is met, and all conditions of its
 -- definition have listed numbers.
+use Rattle.std.specs.Prelude.{Some, None}
 use Prim.Native.Nat.{ℕ, zero, suc}
 use mathlib.Core.Path.{◌≡◌, refl, sym, ◌∙◌}
 use mathlib.Core.Bool.{Bool, true, false, not, ◌&&◌, ◌||◌, true≢false}
@@ -25,7 +26,6 @@ use Rattle.masks.specs.Least.{least_checks, least_mask_of, pair_checks}
 use Rattle.run.specs.Records.{step_by}
 use Rattle.run.specs.Run.{image_of, call_answers, answers_of, is_long, sent}
 use Rattle.run.proofs.Given.{none_given, answers_given}
-use Rattle.run.specs.declared.records.Decoded.TheVariants.{Known, Unknown}
 use Rattle.numbers.specs.Numbers.{Given, every_number, by_call, by_unchecked, by_lent_record, by_load, by_writing, by_step, by_run, by_plan, by_least_mask}
 
 -- every number of a list is listed
@@ -86,8 +86,8 @@ answers_listed (by_unchecked m call) = unchecked_listed m call
 answers_listed (by_lent_record r bits) = first_within every_number (mask_checks r bits) refl
 answers_listed (by_load bytes) = load_listed bytes
 answers_listed (by_writing m room) = first_within every_number (write_checks m room) refl
-answers_listed (by_step m (Known call)) = unchecked_listed m call
-answers_listed (by_step m Unknown) = refl
+answers_listed (by_step m (Some call)) = unchecked_listed m call
+answers_listed (by_step m None) = refl
 answers_listed (by_run input room i) = run_listed input room i
 answers_listed (by_plan list) = first_within every_number (plan_checks list (is_ancestor list)) refl
 answers_listed (by_least_mask m pairs) = first_within every_number (least_checks m pairs) (pairs_listed m.pages pairs _ refl)

@@ -1,4 +1,5 @@
 -- What is an answer of the core, and which numbers are listed, written out: a definition that was misread makes the two sides differ.
+use Rattle.std.specs.Prelude.{Option}
 use Prim.Native.Nat.{ℕ}
 use mathlib.Core.Path.{◌≡◌, refl}
 use mathlib.Core.List.{List, [], ◌∷◌}
@@ -14,7 +15,6 @@ use Rattle.planner.specs.Plan.{plan_of}
 use Rattle.masks.specs.Least.{least_mask_of}
 use Rattle.run.specs.Records.{unchecked_step_of}
 use Rattle.run.specs.Run.{sent}
-use Rattle.run.specs.declared.records.Decoded.{Decoded}
 use Rattle.numbers.specs.Numbers.{Given, every_number, by_call, by_unchecked, by_lent_record, by_load, by_writing, by_step, by_run, by_plan, by_least_mask}
 
 -- RULES 9.1: every answer is among those that `Given` speaks of: on any machine, sound or not, of whatever arguments
@@ -24,7 +24,7 @@ pub given_spelled :
     × ((r : Registers) (bits : ℕ) → Given (masked_of r bits).number)
     × ((bytes : List ℕ) → Given (load_of bytes).number)
     × ((m : Machine) (room : ℕ) → Given (written_of m room).number)
-    × ((m : Machine) (decoded : Decoded) → Given (unchecked_step_of m decoded).number)
+    × ((m : Machine) (decoded : Option Call) → Given (unchecked_step_of m decoded).number)
     × ((input : List ℕ) (room i : ℕ) → Given (get_or (sent input room) i 0))
     × ((list : List ℕ) → Given (plan_of list).number)
     × ((m : Machine) (pairs : List ℕ) → Given (least_mask_of m pairs).number)

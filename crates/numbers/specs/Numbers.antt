@@ -1,5 +1,5 @@
 -- Every number that the core answers (RULES, section 9), whatever it is asked.
-use Rattle.std.specs.Prelude.{ℕ, List, [], ◌∷◌, get_or}
+use Rattle.std.specs.Prelude.{ℕ, Option, List, [], ◌∷◌, get_or}
 use Rattle.rules.specs.Registers.{masked_of}
 use Rattle.rules.specs.declared.registers.Registers.{Registers}
 use Rattle.machine.specs.Calls.{call_of, unchecked_of}
@@ -11,7 +11,6 @@ use Rattle.planner.specs.Plan.{plan_of}
 use Rattle.masks.specs.Least.{least_mask_of}
 use Rattle.run.specs.Records.{unchecked_step_of}
 use Rattle.run.specs.Run.{sent}
-use Rattle.run.specs.declared.records.Decoded.{Decoded}
 
 -- RULES 9.1: the core gives a number where one of these answers is that number. Machines, records, bytes and lists are any.
 pub data Given : (number : ℕ) → Type 0 where
@@ -26,7 +25,7 @@ pub data Given : (number : ℕ) → Type 0 where
   -- RULES 5.15: the writing of an image into so many bytes
   by_writing : (m : Machine) (room : ℕ) → Given (written_of m room).number
   -- RULES 6.7: a step of a run
-  by_step : (m : Machine) (decoded : Decoded) → Given (unchecked_step_of m decoded).number
+  by_step : (m : Machine) (decoded : Option Call) → Given (unchecked_step_of m decoded).number
   -- RULES 7.2: an answer of a run, in a buffer of so many bytes; past the last answer 0 stands here
   by_run : (input : List ℕ) (room i : ℕ) → Given (get_or (sent input room) i 0)
   -- RULES 11.4: a plan

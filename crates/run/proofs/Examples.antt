@@ -1,4 +1,5 @@
 -- Computed examples: each kind of record with parts that differ, and what the sample node answers and reports (RULES 6.5, 6.11).
+use Rattle.std.specs.Prelude.{Some, None}
 use Prim.Native.Nat.{ℕ}
 use mathlib.Core.Path.{◌≡◌, refl, ap}
 use mathlib.Core.List.{List, [], ◌∷◌, ◌++◌, map}
@@ -15,7 +16,6 @@ use Rattle.machine.specs.declared.record.Width.TheVariants.{One, Two}
 use Rattle.machine.specs.declared.record.Call.TheVariants.{Access, Grant, Revoke, SetMask, Enter, Return, Switch, StoreField, StoreContext, StoreMask, StoreMode, AskViolation}
 use Rattle.run.specs.Records.{call_of_kind, calls_of, step_by}
 use Rattle.run.specs.Run.{steps_from, answers_of, call_steps, call_reports, sent}
-use Rattle.run.specs.declared.records.Decoded.TheVariants.{Known, Unknown}
 
 -- a record of a kind, with right 1, A = 0x0203 and B = 0x0405
 abbrev record_of : ℕ → List ℕ → List ℕ
@@ -26,21 +26,21 @@ pub kinds_read :
     calls_of
     (record_of 0 (record_of 1 (record_of 2 (record_of 3 (record_of 4 (record_of 5 (record_of 6 (record_of 7 (record_of 8
     (record_of 9 (record_of 10 (record_of 11 (record_of 12 (record_of 13 (record_of 14 (1 ∷ 1 ∷ 2 ∷ 3 ∷ 4 ∷ []))))))))))))))))
-    ≡ Unknown
-    ∷ Known (Access One 1 0x02030405)
-    ∷ Known (Grant 1 (as_page 0x0203) (as_domain 0x0405))
-    ∷ Known (Revoke 1 (as_page 0x0203) (as_domain 0x0405))
-    ∷ Known (SetMask 0x0405)
-    ∷ Known Enter
-    ∷ Known Return
-    ∷ Known (Switch 0x0405)
-    ∷ Known (StoreField 1 (as_page 0x0203) 0x0405)
-    ∷ Known (StoreContext 0x0405)
-    ∷ Known (StoreMask 0x0405)
-    ∷ Known (StoreMode 0x0405)
-    ∷ Known AskViolation
-    ∷ Known (Access Two 1 0x02030405)
-    ∷ Unknown
+    ≡ None
+    ∷ Some (Access One 1 0x02030405)
+    ∷ Some (Grant 1 (as_page 0x0203) (as_domain 0x0405))
+    ∷ Some (Revoke 1 (as_page 0x0203) (as_domain 0x0405))
+    ∷ Some (SetMask 0x0405)
+    ∷ Some Enter
+    ∷ Some Return
+    ∷ Some (Switch 0x0405)
+    ∷ Some (StoreField 1 (as_page 0x0203) 0x0405)
+    ∷ Some (StoreContext 0x0405)
+    ∷ Some (StoreMask 0x0405)
+    ∷ Some (StoreMode 0x0405)
+    ∷ Some AskViolation
+    ∷ Some (Access Two 1 0x02030405)
+    ∷ None
     ∷ []
 unfolding calls_of call_of_kind
 kinds_read = refl

@@ -1,5 +1,6 @@
 -- What the definitions of this crate come to on records with parts that no call takes, on inputs cut at every place that matters, on machines that
 -- are not sound, and on an image longer than 255 bytes. All is computed: what a definition gives stands beside what it must be, written out.
+use Rattle.std.specs.Prelude.{Some, None}
 use Prim.Native.Nat.{ℕ}
 use mathlib.Core.Path.{◌≡◌, refl}
 use mathlib.Core.Bool.{Bool, true, false}
@@ -23,27 +24,26 @@ use Rattle.machine.specs.declared.record.Call.TheVariants.{Access, Grant, Revoke
 use Rattle.machine.proofs.Written.{stored, live, denied, whole, gives}
 use Rattle.run.specs.Records.{call_of_kind, calls_of, step_by, step_of, unchecked_step_of}
 use Rattle.run.specs.Run.{steps_from, answers_of, call_steps, call_reports, call_bytes, image_of, is_long, name_of, report_named, sent, sent_reports}
-use Rattle.run.specs.declared.records.Decoded.TheVariants.{Known, Unknown}
 
 -- a right above 1 is read as it stands, every part that a call does not use is passed over, and no kind past 13 is known
 pub parts_read :
     (map (λ (right : ℕ). call_of_kind 1 right 0xFFFF 0xFFFE) (0 ∷ 1 ∷ 2 ∷ 255 ∷ [])
-    ≡ Known (Access One 0 0xFFFFFFFE) ∷ Known (Access One 1 0xFFFFFFFE) ∷ Known (Access One 2 0xFFFFFFFE) ∷ Known (Access One 255 0xFFFFFFFE) ∷ [])
+    ≡ Some (Access One 0 0xFFFFFFFE) ∷ Some (Access One 1 0xFFFFFFFE) ∷ Some (Access One 2 0xFFFFFFFE) ∷ Some (Access One 255 0xFFFFFFFE) ∷ [])
     × (map (λ (kind : ℕ). call_of_kind kind 254 0xFFFF 0xFFFE) (2 ∷ 3 ∷ 4 ∷ 5 ∷ 6 ∷ 7 ∷ 8 ∷ 9 ∷ 10 ∷ 11 ∷ 12 ∷ 13 ∷ [])
-    ≡ Known (Grant 254 (record { 0 = 0xFFFF }) (record { 0 = 0xFFFE }))
-    ∷ Known (Revoke 254 (record { 0 = 0xFFFF }) (record { 0 = 0xFFFE }))
-    ∷ Known (SetMask 0xFFFE)
-    ∷ Known Enter
-    ∷ Known Return
-    ∷ Known (Switch 0xFFFE)
-    ∷ Known (StoreField 254 (record { 0 = 0xFFFF }) 0xFFFE)
-    ∷ Known (StoreContext 0xFFFE)
-    ∷ Known (StoreMask 0xFFFE)
-    ∷ Known (StoreMode 0xFFFE)
-    ∷ Known AskViolation
-    ∷ Known (Access Two 254 0xFFFFFFFE)
+    ≡ Some (Grant 254 (record { 0 = 0xFFFF }) (record { 0 = 0xFFFE }))
+    ∷ Some (Revoke 254 (record { 0 = 0xFFFF }) (record { 0 = 0xFFFE }))
+    ∷ Some (SetMask 0xFFFE)
+    ∷ Some Enter
+    ∷ Some Return
+    ∷ Some (Switch 0xFFFE)
+    ∷ Some (StoreField 254 (record { 0 = 0xFFFF }) 0xFFFE)
+    ∷ Some (StoreContext 0xFFFE)
+    ∷ Some (StoreMask 0xFFFE)
+    ∷ Some (StoreMode 0xFFFE)
+    ∷ Some AskViolation
+    ∷ Some (Access Two 254 0xFFFFFFFE)
     ∷ [])
-    × (map (λ (kind : ℕ). call_of_kind kind 1 2 3) (0 ∷ 14 ∷ 15 ∷ 16 ∷ 17 ∷ 32 ∷ 65 ∷ 127 ∷ 128 ∷ 129 ∷ 133 ∷ 255 ∷ []) ≡ replicate 12 Unknown)
+    × (map (λ (kind : ℕ). call_of_kind kind 1 2 3) (0 ∷ 14 ∷ 15 ∷ 16 ∷ 17 ∷ 32 ∷ 65 ∷ 127 ∷ 128 ∷ 129 ∷ 133 ∷ 255 ∷ []) ≡ replicate 12 None)
 unfolding call_of_kind
 parts_read = (refl, refl, refl)
 
@@ -57,7 +57,7 @@ pub records_cut :
     ∷ (1 ∷ 2 ∷ 0x12 ∷ 0x34 ∷ 0x56 ∷ 0x78 ∷ 6 ∷ [])
     ∷ (200 ∷ 0 ∷ 0 ∷ 0 ∷ 0 ∷ 0 ∷ 4 ∷ 0 ∷ 0x12 ∷ 0x34 ∷ 0x56 ∷ 0x78 ∷ 6 ∷ 0 ∷ 0 ∷ 0 ∷ 0 ∷ [])
     ∷ [])
-    ≡ (Known Enter ∷ []) ∷ (Known (Access One 2 0x12345678) ∷ []) ∷ (Unknown ∷ Known (SetMask 0x5678) ∷ []) ∷ [])
+    ≡ (Some Enter ∷ []) ∷ (Some (Access One 2 0x12345678) ∷ []) ∷ (None ∷ Some (SetMask 0x5678) ∷ []) ∷ [])
 unfolding calls_of call_of_kind
 records_cut = (refl, refl)
 
@@ -69,7 +69,7 @@ small depth mask mode pending saved = whole 1 5 (1 ∷ 0 ∷ []) (live 1 mask mo
 pub steps_made :
     let m = small 0 1 User false (false ∷ []) in
     let deep = small 9 1 User false (false ∷ []) in
-    (map (step_of m) (Unknown ∷ Known (SetMask 7) ∷ Known (SetMask 6) ∷ Known (Access One 1 0) ∷ Known Enter ∷ Known Return ∷ [])
+    (map (step_of m) (None ∷ Some (SetMask 7) ∷ Some (SetMask 6) ∷ Some (Access One 1 0) ∷ Some Enter ∷ Some Return ∷ [])
     ≡ gives 18 m
     ∷ gives 0 (small 0 7 User false (false ∷ []))
     ∷ gives 19 m
@@ -77,8 +77,8 @@ pub steps_made :
     ∷ gives 0 (small 1 1 Privileged false (false ∷ []))
     ∷ gives 7 m
     ∷ [])
-    × (map (step_of deep) (Unknown ∷ Known (SetMask 7) ∷ Known Enter ∷ []) ≡ gives 18 deep ∷ gives 1 deep ∷ gives 1 deep ∷ [])
-    × (map (unchecked_step_of deep) (Unknown ∷ Known (SetMask 7) ∷ Known (SetMask 6) ∷ Known Enter ∷ [])
+    × (map (step_of deep) (None ∷ Some (SetMask 7) ∷ Some Enter ∷ []) ≡ gives 18 deep ∷ gives 1 deep ∷ gives 1 deep ∷ [])
+    × (map (unchecked_step_of deep) (None ∷ Some (SetMask 7) ∷ Some (SetMask 6) ∷ Some Enter ∷ [])
     ≡ gives 18 deep ∷ gives 0 (small 9 7 User false (false ∷ [])) ∷ gives 19 deep ∷ gives 13 deep ∷ [])
 unfolding step_by call_of unchecked_of checks_of access_checks effect_of entered after is_sound
 steps_made = (refl, refl, refl)

@@ -20,41 +20,42 @@ use Rattle.run.proofs.Steps.{count_calls, count_steps}
 -- what the contract of `run_named` says of a count, of the answers at exit and of the names at exit; that of `bench_run` has no names
 abbrev pub Sends : (input entry names : List ℕ) (count : ℕ) (exit names' : List ℕ) → Type 0
 Sends input entry names count exit names' =
-    (count ≡ length (sent input (length entry)))
-    × ((exit ≡ sent input (length entry) ++ drop (length (sent input (length entry))) entry)
-    × (names' ≡ sets names 1 (map name_of (sent_reports input (length entry)))))
+    record {
+      value : count ≡ length (sent input (length entry));
+      answers_after : exit ≡ sent input (length entry) ++ drop (length (sent input (length entry))) entry;
+      names_after : names' ≡ sets names 1 (map name_of (sent_reports input (length entry)));
+    }
 
 nothing_sent : (input entry names : List ℕ) → sent input (length entry) ≡ [] → Sends input entry names 0 entry names
 unfolding sent_reports
-nothing_sent input entry names e = rw e (refl, (refl, refl))
+nothing_sent input entry names e = rw e (record { value = refl; answers_after = refl; names_after = refl })
 
 pub long_sends : (input entry names : List ℕ) → 32768 < length input → Sends input entry names 0 entry names
 unfolding sent
 long_sends input entry names h = nothing_sent input entry names (rw (lt-ltb 32768 (length input) h))
 
-module _ (input : List ℕ) {end : ℕ} (ends : end ≡ min (2 + word_at input 0) (length input)) where
-  -- how many bytes the calls are read from
-  pub bytes_left : length (call_bytes input) ≡ length input - end
-  bytes_left = rw (← calls_part input ends) (length-drop end input)
+-- how many bytes the calls are read from
+pub bytes_left : (input : List ℕ) {end : ℕ} → end ≡ min (2 + word_at input 0) (length input) → length (call_bytes input) ≡ length input - end
+bytes_left input {end} ends = rw (← calls_part input ends) (length-drop end input)
 
-  -- one answer of the load, and one of every six bytes after the image
-  pub answers_count : length (answers_of input) ≡ pick (eqb (loaded_of input).number 0) (1 + (length input - end) / 6) 1
-  unfolding call_steps
-  answers_count = split (eqb (loaded_of input).number 0)
-    where
-      split : (b : Bool)
-          → length ((loaded_of input).number ∷ numbers_of (pick b (steps_from (loaded_of input).machine (calls_of (call_bytes input))) []))
-          ≡ pick b (1 + (length input - end) / 6) 1
-      split true =
-          let steps = steps_from (loaded_of input).machine (calls_of (call_bytes input)) in
-          let calls = length-map steps (λ (a : Answered). a.number) ∙ count_steps (loaded_of input).machine (calls_of (call_bytes input)) ∙ count_calls (call_bytes input) in
-          omega (arith, calls, bytes_left)
-      split false = refl
+-- one answer of the load, and one of every six bytes after the image
+pub answers_count : (input : List ℕ) → length (answers_of input) ≡ pick (eqb (loaded_of input).number 0) (1 + length (call_bytes input) / 6) 1
+unfolding call_steps
+answers_count input = split (eqb (loaded_of input).number 0)
+  where
+    split : (b : Bool)
+        → length ((loaded_of input).number ∷ numbers_of (pick b (steps_from (loaded_of input).machine (calls_of (call_bytes input))) []))
+        ≡ pick b (1 + length (call_bytes input) / 6) 1
+    split true =
+        let steps = steps_from (loaded_of input).machine (calls_of (call_bytes input)) in
+        let calls = length-map steps (λ (a : Answered). a.number) ∙ count_steps (loaded_of input).machine (calls_of (call_bytes input)) ∙ count_calls (call_bytes input) in
+        omega (arith, calls)
+    split false = refl
 
-  -- the steps that the code takes are the input's, and after a refused load it takes none
-  pub steps_all : (loaded_of input).number ≡ 0 → steps_from (loaded_of input).machine (calls_of (drop end input)) ≡ call_steps input
-  unfolding call_steps
-  steps_all zero = rw (zero, calls_part input ends)
+-- the steps of a run: those of the calls after an accepted load, and none after a refused one
+pub steps_all : (input : List ℕ) → (loaded_of input).number ≡ 0 → steps_from (loaded_of input).machine (calls_of (call_bytes input)) ≡ call_steps input
+unfolding call_steps
+steps_all input zero = rw zero
 
 pub steps_none : (input : List ℕ) → ((loaded_of input).number ≡ 0 → ⊥) → [] ≡ call_steps input
 unfolding call_steps
@@ -82,7 +83,11 @@ module _ (input entry names : List ℕ) {count : ℕ} (within : length input ≤
   all_sends steps room same stored named =
       let all = all_sent input (length entry) within (omega (arith, counted, room)) in
       rw (all_reported input (length entry) all, all)
-      (counted, (rw same at stored ∙ sets-eq (answers_of input) entry 0 (omega (arith, counted, room)) ∙ simp zero-add, rw same at named))
+      (record {
+        value = counted;
+        answers_after = rw same at stored ∙ sets-eq (answers_of input) entry 0 (omega (arith, counted, room)) ∙ simp zero-add;
+        names_after = rw same at named;
+      })
 
 -- one report for every answer of a record
 pub reports_count : (input : List ℕ) → length (call_reports input) ≡ length (call_answers input)
@@ -90,9 +95,11 @@ reports_count input = length-map (call_steps input) _ ∙ sym (length-map (call_
 
 -- RULES 7.6: room for the answers of an input
 pub answers_most : (input : List ℕ) → length (answers_of input) ≤ 1 + length input / 6
-answers_most input =
-    rw (answers_count input {end = min (2 + word_at input 0) (length input)} refl) (split (eqb (loaded_of input).number 0))
+answers_most input = rw (answers_count input) (split (eqb (loaded_of input).number 0))
   where
-    split : (b : Bool) → pick b (1 + (length input - min (2 + word_at input 0) (length input)) / 6) 1 ≤ 1 + length input / 6
-    split true = omega arith
+    fewer : length (call_bytes input) ≤ length input
+    fewer = simp length-drop (omega arith)
+
+    split : (b : Bool) → pick b (1 + length (call_bytes input) / 6) 1 ≤ 1 + length input / 6
+    split true = omega (arith, fewer)
     split false = omega arith

@@ -1,5 +1,6 @@
 -- Records and runs spelled out for any input: the call of each kind, the steps in a row, what they answer and report, and what is sent into any room. The
 -- tables of Pinned try inputs that are written out; here none is left out.
+use Rattle.std.specs.Prelude.{Option, Some, None}
 use Prim.Native.Nat.{ℕ, zero, suc, ◌+◌, ◌*◌}
 use mathlib.Core.Path.{◌≡◌, refl}
 use mathlib.Core.List.{List, [], ◌∷◌, map}
@@ -19,28 +20,26 @@ use Rattle.machine.specs.declared.record.Call.{Call}
 use Rattle.machine.specs.declared.record.Call.TheVariants.{Access, Grant, Revoke, SetMask, Enter, Return, Switch, StoreField, StoreContext, StoreMask, StoreMode, AskViolation}
 use Rattle.run.specs.Records.{call_of_kind, calls_of, step_by, unchecked_step_of}
 use Rattle.run.specs.Run.{answers_of, call_reports, call_steps, loaded_of, name_of, report_named, sent, sent_reports, steps_from}
-use Rattle.run.specs.declared.records.Decoded.{Decoded}
-use Rattle.run.specs.declared.records.Decoded.TheVariants.{Known, Unknown}
 
 -- the kinds for any parts, and a kind past the last
 pub kinds_spelled : (right a b more : ℕ)
     → (map (λ kind. call_of_kind kind right a b) (0 ∷ 1 ∷ 2 ∷ 3 ∷ 4 ∷ 5 ∷ 6 ∷ 7 ∷ 8 ∷ 9 ∷ 10 ∷ 11 ∷ 12 ∷ 13 ∷ [])
-    ≡ Unknown
-    ∷ Known (Access One right (65536 * a + b))
-    ∷ Known (Grant right (record { 0 = a }) (record { 0 = b }))
-    ∷ Known (Revoke right (record { 0 = a }) (record { 0 = b }))
-    ∷ Known (SetMask b)
-    ∷ Known Enter
-    ∷ Known Return
-    ∷ Known (Switch b)
-    ∷ Known (StoreField right (record { 0 = a }) b)
-    ∷ Known (StoreContext b)
-    ∷ Known (StoreMask b)
-    ∷ Known (StoreMode b)
-    ∷ Known AskViolation
-    ∷ Known (Access Two right (65536 * a + b))
+    ≡ None
+    ∷ Some (Access One right (65536 * a + b))
+    ∷ Some (Grant right (record { 0 = a }) (record { 0 = b }))
+    ∷ Some (Revoke right (record { 0 = a }) (record { 0 = b }))
+    ∷ Some (SetMask b)
+    ∷ Some Enter
+    ∷ Some Return
+    ∷ Some (Switch b)
+    ∷ Some (StoreField right (record { 0 = a }) b)
+    ∷ Some (StoreContext b)
+    ∷ Some (StoreMask b)
+    ∷ Some (StoreMode b)
+    ∷ Some AskViolation
+    ∷ Some (Access Two right (65536 * a + b))
     ∷ [])
-    × (call_of_kind (suc (suc (suc (suc (suc (suc (suc (suc (suc (suc (suc (suc (suc (suc more)))))))))))))) right a b ≡ Unknown)
+    × (call_of_kind (suc (suc (suc (suc (suc (suc (suc (suc (suc (suc (suc (suc (suc (suc more)))))))))))))) right a b ≡ None)
 unfolding call_of_kind
 kinds_spelled right a b more = (refl, refl)
 
@@ -51,7 +50,7 @@ unfolding calls_of
 records_spelled kind right a a' b b' rest = refl
 
 -- the answers of any input and what is sent of them into any room, with what they report and how a name stands in a buffer
-pub run_spelled : (input : List ℕ) (room : ℕ) (m : Machine) (call : Call) (rest : List Decoded) (violation : Violation) (s : Domain)
+pub run_spelled : (input : List ℕ) (room : ℕ) (m : Machine) (call : Call) (rest : List (Option Call)) (violation : Violation) (s : Domain)
     → let start = load_of (take (word_at input 0) (drop 2 input)) in
     let calls = drop (word_at input 0) (drop 2 input) in
     let steps : List Answered = pick (eqb start.number 0) (steps_from start.machine (calls_of calls)) [] in
@@ -60,14 +59,14 @@ pub run_spelled : (input : List ℕ) (room : ℕ) (m : Machine) (call : Call) (r
     (loaded_of input ≡ start)
     × (answers_of input ≡ answers)
     × (sent input room ≡ given)
-    × (steps_from m (Known call ∷ rest) ≡ call_of m call ∷ steps_from (call_of m call).machine rest)
-    × (steps_from m (Unknown ∷ rest) ≡ record { number = 18; machine = m; report = Nothing } ∷ steps_from m rest)
+    × (steps_from m (Some call ∷ rest) ≡ call_of m call ∷ steps_from (call_of m call).machine rest)
+    × (steps_from m (None ∷ rest) ≡ record { number = 18; machine = m; report = Nothing } ∷ steps_from m rest)
     × (steps_from m [] ≡ [])
     × (call_reports input ≡ map (λ (a : Answered). a.report) steps)
     × (sent_reports input room ≡ pick (eqb (length given) 0) [] (call_reports input))
     × (name_of Nothing ∷ name_of (Denied violation) ∷ name_of (Through s) ∷ [] ≡ 0 ∷ 0 ∷ (s.0 + 1) ∷ [])
     × (report_named zero ∷ report_named (suc room) ∷ [] ≡ Nothing ∷ Through (record { 0 = room }) ∷ [])
-    × (unchecked_step_of m (Known call) ≡ unchecked_of m call)
-    × (unchecked_step_of m Unknown ≡ record { number = 18; machine = m; report = Nothing })
+    × (unchecked_step_of m (Some call) ≡ unchecked_of m call)
+    × (unchecked_step_of m None ≡ record { number = 18; machine = m; report = Nothing })
 unfolding sent sent_reports call_steps steps_from step_by
 run_spelled input room m call rest violation s = (refl, refl, refl, refl, refl, refl, refl, refl, refl, refl, refl, refl)

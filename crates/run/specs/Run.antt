@@ -1,5 +1,6 @@
 -- The run over a whole input, and the bench (RULES, sections 6 and 7).
-use Rattle.std.specs.Prelude.{ℕ, zero, suc, ◌+◌, Bool, List, [], ◌∷◌, map, eqb, leb, ltb, length, take, drop}
+use Rattle.std.specs.Prelude.{ℕ, zero, suc, ◌+◌, Bool, Option, List, [], ◌∷◌, map, eqb, leb, ltb, length, take, drop}
+use Rattle.machine.specs.declared.record.Call.{Call}
 use Rattle.rules.specs.Refusals.{pick}
 use Rattle.image.specs.Bytes.{word_at}
 use Rattle.image.specs.Load.{load_of}
@@ -9,7 +10,6 @@ use Rattle.machine.specs.declared.record.Answered.{Answered}
 use Rattle.machine.specs.declared.record.Report.{Report}
 use Rattle.machine.specs.declared.record.Report.TheVariants.{Nothing, Denied, Through}
 use Rattle.run.specs.Records.{calls_of, step_of}
-use Rattle.run.specs.declared.records.Decoded.{Decoded}
 
 -- RULES 6.1 to 6.3: as many bytes past the first two as these declare, or those that are there
 abbrev pub image_of : List ℕ → List ℕ
@@ -24,7 +24,7 @@ abbrev pub loaded_of : List ℕ → Answered
 loaded_of input = load_of (image_of input)
 
 -- RULES 6.7: the records taken as steps, each on the machine that was given back before it
-unfoldable pub steps_from : Machine → List Decoded → List Answered
+unfoldable pub steps_from : Machine → List (Option Call) → List Answered
 steps_from m [] = []
 steps_from m (call ∷ rest) = step_of m call ∷ steps_from (step_of m call).machine rest
 

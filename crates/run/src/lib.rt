@@ -4,5 +4,5 @@
 mod bench;
 mod records;
 
-pub use bench::{bench_run, calls_start, run_named};
-pub use records::{Decoded, call_of_kind, step};
+pub use bench::{bench_run, calls_start, run_named, split_input};
+pub use records::{call_of_kind, decode, step};

@@ -5,12 +5,7 @@ use Rattle.machine.specs.Calls.{call_of}
 use Rattle.machine.specs.declared.record.Answered.{Answered}
 use Rattle.machine.specs.declared.record.Call.TheVariants.{Switch, Return}
 use Rattle.machine.proofs.Turn.{turn_begins}
-use Rattle.kernel.specs.Kernel.{begun_of}
 use Rattle.kernel.proofs.begin_turn.Goals as goal
-
-pub returns-clause-value : goal.returns-clause-value
-unfolding begun_of
-returns-clause-value c = rw (c.leave-left.ensures, c.switch_to-switched.ensures, c.enter-entered.ensures)
 
 pub returns-clause-result_value : goal.returns-clause-result_value
 returns-clause-result_value c =

@@ -1,14 +1,11 @@
 -- `kernel::serve_all`: with the refusals so far, what is left to serve comes to the whole.
-use Rattle.std.proofs.Common.{◌≡◌, ◌≤◌, ◌-◌, drop}
+use Rattle.std.proofs.Common.{◌≡◌, ◌≤◌, drop}
 use Rattle.kernel.specs.Kernel.{served_of}
 use Rattle.kernel.proofs.Requests.{onward}
 use Rattle.kernel.proofs.serve_all.Given as goal
 
-abbrev pub invariant-loop-i : goal.invariant-loop-i
-invariant-loop-i l =
-    (l.i ≤ 3)
-    × (l.refused ≤ l.i)
-    × (onward l.refused (served_of l.answered.machine (drop l.i l.requests)) ≡ served_of l.initial.answered.machine l.requests)
-
-abbrev pub decreases-loop-i : goal.decreases-loop-i
-decreases-loop-i l = 3 - l.i
+abbrev pub invariant-loop-request : goal.invariant-loop-request
+invariant-loop-request l = record {
+  few : l.served.refused ≤ l.request-index;
+  whole : onward l.served.refused (served_of l.served.machine (drop l.request-index l.requests)) ≡ served_of l.fn.start l.requests;
+}

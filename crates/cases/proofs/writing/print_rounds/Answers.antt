@@ -1,6 +1,5 @@
 -- `cases::writing::print_rounds`: what the second round loads is what the first wrote (`first_written`).
 use Rattle.std.proofs.Common.{sym, length-take-le}
-use Rattle.cases.specs.Writing.{held_of, again_of}
 use Rattle.cases.proofs.Rounds.{first_written}
 use Rattle.cases.proofs.writing.print_rounds.Goals as goal
 
@@ -11,24 +10,3 @@ pub slice_bounds-print_round-end-2 : goal.slice_bounds-print_round-end-2
 slice_bounds-print_round-end-2 g c =
     let round = c.in_ok-count.ensures in
     sym (length-take-le c.in_ok-count.count c.print_round.new.buffer (first_written _ _ round.value round.buffer_after).0)
-
-pub returns-clause-value : goal.returns-clause-value
-unfolding again_of
-returns-clause-value g c =
-    let a = c.args in
-    let round = c.in_ok-count.ensures in
-    rw (← (first_written (held_of a.bytes.now a.calls.now) a.first.now round.value round.buffer_after).1) c.print_round-2.ensures.value
-
-pub returns-clause-second_after : goal.returns-clause-second_after
-unfolding again_of
-returns-clause-second_after g c =
-    let a = c.args in
-    let round = c.in_ok-count.ensures in
-    rw (← (first_written (held_of a.bytes.now a.calls.now) a.first.now round.value round.buffer_after).1) c.print_round-2.ensures.buffer_after
-
-pub returns-clause-second_err : goal.returns-clause-second_err
-unfolding again_of
-returns-clause-second_err g c =
-    let a = c.args in
-    let round = c.in_ok-count.ensures in
-    rw (← (first_written (held_of a.bytes.now a.calls.now) a.first.now round.value round.buffer_after).1) c.print_round-2.ensures.err

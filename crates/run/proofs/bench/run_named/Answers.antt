@@ -4,51 +4,38 @@ use mathlib.Core.Path.{◌≡◌, refl, sym, ◌∙◌}
 use mathlib.Core.List.{[]}
 use lib.ListN.{length}
 use Rattle.image.proofs.Loaded.{loaded}
-use Rattle.run.specs.Run.{answers_of, image_of}
+use Rattle.run.specs.Run.{answers_of, image_of, loaded_of}
 use Rattle.run.proofs.Sent.{answers_count, all_sends, long_sends, short_sends, steps_all, steps_none}
 use Rattle.run.proofs.bench.run_named.Goals.{After-answer_count-count}
 use Rattle.run.proofs.bench.run_named.Goals as goal
 
 pub returns-then-input-gt32768 : goal.returns-then-input-gt32768
-returns-then-input-gt32768 c =
-    let sends = long_sends c.args.input.now c.args.answers.now c.args.names.now c.if-input-gt32768.true in
-    record { value = sends.0; answers_after = sends.1.0; names_after = sends.1.1 }
+returns-then-input-gt32768 c = long_sends _ _ _ c.if-input-gt32768.true
+
+load : (c : After-answer_count-count) → c.load_image-loaded.result ≡ loaded_of c.args.input.now
+load c = rw c.split_input.ensures.image at c.load_image-loaded.ensures
 
 counted : (c : After-answer_count-count) → c.answer_count-count.result ≡ length (answers_of c.args.input.now)
-counted c =
-    c.answer_count-count.ensures
-    ∙ rw c.load_input-loaded.ensures (sym (answers_count c.args.input.now c.calls_start-end.ensures))
+counted c = c.answer_count-count.ensures ∙ rw (load c, c.split_input.ensures.calls) (sym (answers_count c.args.input.now))
 
 pub returns-then-answers-count : goal.returns-then-answers-count
 returns-then-answers-count c =
-    let count = counted (goal.at.returns-then-answers-count c).After-answer_count-count in
-    let sends = short_sends c.args.input.now c.args.answers.now c.args.names.now c.if-input-gt32768.false count c.if-answers-count.true in
-    record { value = sends.0; answers_after = sends.1.0; names_after = sends.1.1 }
+    short_sends _ _ _ c.if-input-gt32768.false (counted (goal.at.returns-then-answers-count c).After-answer_count-count) c.if-answers-count.true
 
 pub answer_calls-requires-clause-start_value : goal.answer_calls-requires-clause-start_value
 answer_calls-requires-clause-start_value c =
-    let load = c.load_input-loaded.ensures in
-    let accepted = c.if-number-eq0.true in
-    rw load (loaded (image_of c.args.input.now) (rw (← load) accepted)).sound
+    let load = load (goal.at.answer_calls-requires-clause-start_value c).After-answer_count-count in
+    rw load (loaded (image_of c.args.input.now) (rw (← load) c.if-loaded-eq0.true)).sound
 
-pub returns-then-number-eq0 : goal.returns-then-number-eq0
-returns-then-number-eq0 c =
-    let a = c.args in
-    let load = c.load_input-loaded.ensures in
-    let accepted = rw load at c.if-number-eq0.true in
-    let stored = rw load at c.answer_calls.ensures in
-    let count = counted (goal.at.returns-then-number-eq0 c).After-answer_count-count in
-    let sends =
-    all_sends a.input.now a.answers.now a.names.now c.if-input-gt32768.false count _ c.if-answers-count.false
-    (steps_all a.input.now c.calls_start-end.ensures accepted) stored.answers_after stored.names_after in
-    record { value = sends.0; answers_after = sends.1.0; names_after = sends.1.1 }
+pub returns-then-loaded-eq0 : goal.returns-then-loaded-eq0
+returns-then-loaded-eq0 c =
+    let before = (goal.at.returns-then-loaded-eq0 c).After-answer_count-count in
+    let stored = rw (load before, c.split_input.ensures.calls) at c.answer_calls.ensures in
+    all_sends _ _ _ c.if-input-gt32768.false (counted before) _ c.if-answers-count.false
+    (steps_all c.args.input.now (rw (load before) at c.if-loaded-eq0.true)) stored.answers_after stored.names_after
 
-pub returns-else-number-eq0 : goal.returns-else-number-eq0
-returns-else-number-eq0 c =
-    let a = c.args in
-    let load = c.load_input-loaded.ensures in
-    let count = counted (goal.at.returns-else-number-eq0 c).After-answer_count-count in
-    let sends =
-    all_sends a.input.now a.answers.now a.names.now c.if-input-gt32768.false count [] c.if-answers-count.false
-    (steps_none a.input.now (rw load at c.if-number-eq0.false)) (rw load) refl in
-    record { value = sends.0; answers_after = sends.1.0; names_after = sends.1.1 }
+pub returns-else-loaded-eq0 : goal.returns-else-loaded-eq0
+returns-else-loaded-eq0 c =
+    let before = (goal.at.returns-else-loaded-eq0 c).After-answer_count-count in
+    all_sends _ _ _ c.if-input-gt32768.false (counted before) [] c.if-answers-count.false
+    (steps_none c.args.input.now (rw (load before) at c.if-loaded-eq0.false)) (rw (load before)) refl
