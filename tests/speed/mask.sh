@@ -17,11 +17,11 @@ cat >"$room/crates/timing/src/lib.rt" <<'RT'
 
 use image::load;
 use masks::least_mask;
-use rules::{Refusal, number_of};
+use rules::{Refusal, outcome_number};
 
 // The number and the mask, which is 0 beside a refusal, in one number.
 fn answer_of(least: Result<u16, Refusal>) -> u32 {
-    u32::from(number_of(least)) * 65536 + u32::from(least.unwrap_or(0))
+    u32::from(outcome_number(least)) * 65536 + u32::from(least.unwrap_or(0))
 }
 
 #[unsafe(no_mangle)]

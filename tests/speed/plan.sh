@@ -15,7 +15,7 @@ cat >"$room/crates/timing/src/lib.rt" <<'RT'
 #![tactic(auto)]
 
 use planner::plan;
-use rules::number_of;
+use rules::outcome_number;
 
 #[unsafe(no_mangle)]
 pub extern "C" fn core_plan(parents: &[u8], contexts: &mut [u16]) -> u8 {
@@ -24,7 +24,7 @@ pub extern "C" fn core_plan(parents: &[u8], contexts: &mut [u16]) -> u8 {
     for (context, place) in contexts.iter_mut().zip(&places) {
         *context = *place;
     }
-    number_of(planned)
+    outcome_number(planned)
 }
 RT
 "$here/build.sh" "$room" planner image machine rules >"$room/log" 2>&1 || {

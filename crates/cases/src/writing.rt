@@ -9,7 +9,7 @@ ghost use Rattle.cases.specs.Writing.{room_of, digit_of, digits_of, machine_afte
 use image::bytes::word_at;
 use image::{load, write};
 use machine::{Answered, Call, Machine, Report};
-use rules::Refusal;
+use rules::{Refusal, outcome_number};
 use run::{decode, split_input};
 use std::io;
 
@@ -153,9 +153,10 @@ fn print_round(rt: &impl Print, bytes: &[u8], calls: &[u8], buffer: &mut [u8]) -
 {
     let machine = hold(rt, bytes, calls)?;
     let written = write(machine, buffer);
-    println!(rt; "write {} {}", written.number, written.count)?;
+    let count = written.unwrap_or(0);
+    println!(rt; "write {} {count}", outcome_number(written))?;
     print_bytes(rt, buffer)?;
-    Ok(written.count)
+    Ok(count)
 }
 
 // The two rounds, the second on the bytes that the first wrote, with the same calls; answers how many bytes the second wrote.

@@ -5,7 +5,7 @@
 
 ghost use Rattle.std.specs.Prelude.{◌≡◌, ◌+◌, ◌++◌, ◌≤◌, ◌/◌, length, drop, IfOk, IfSome};
 ghost use Rattle.rules.specs.Domains.{holds};
-ghost use Rattle.rules.specs.Refusals.{pick, number_of, given_or};
+ghost use Rattle.rules.specs.Refusals.{pick, outcome_number, given_or};
 ghost use Rattle.masks.specs.Least.{domain_count, least_mask_of};
 ghost use Rattle.leastmask.specs.Asked.{started_of, pair_at, pairs_of};
 
@@ -15,7 +15,7 @@ use input::read_full;
 use machine::{Answered, Machine, Report};
 use masks::least_mask;
 use rules::domains::holds_domain;
-use rules::{Refusal, number_of};
+use rules::{Refusal, outcome_number};
 use std::io;
 
 // What is asked: an image, a program of it, and the bytes of the pairs.
@@ -68,7 +68,7 @@ fn store_pairs(pairs: &mut [u32], bytes: &[u8])
 // The least mask on a machine for the pairs of a string of bytes.
 fn ask(machine: Machine, bytes: &[u8]) -> Result<u16, Refusal>
     requires { length bytes.now ≤ 65536 }
-    ensures number { number_of result ≡ (least_mask_of machine (pairs_of bytes.now)).number }
+    ensures number { outcome_number result ≡ (least_mask_of machine (pairs_of bytes.now)).number }
     ensures mask { given_or 0 result ≡ (least_mask_of machine (pairs_of bytes.now)).mask }
 {
     let mut pairs = [0u32; 16384];
@@ -112,7 +112,7 @@ fn print_line(
 ) -> io::Result<u32>
     ensures { IfOk result (λ count. count ≡ domain_count (given_or 0 least)) }
 {
-    let number = number_of(least);
+    let number = outcome_number(least);
     let mask = least.unwrap_or(0);
     print!(rt; "{which} start {start} mask {number} {mask:04x}")?;
     print_domains(rt, mask)
@@ -121,7 +121,7 @@ fn print_line(
 // Asks a case, prints its line, and hands back what was found.
 fn print_case(rt: &impl Print, which: u64, case: Case<'_>) -> io::Result<Result<u16, Refusal>>
     requires { length case.pairs.now ≤ 65536 }
-    ensures number { IfOk result (λ least. number_of least ≡ (least_mask_of (started_of case.entry.image.now case.entry.program).machine (pairs_of case.entry.pairs.now)).number) }
+    ensures number { IfOk result (λ least. outcome_number least ≡ (least_mask_of (started_of case.entry.image.now case.entry.program).machine (pairs_of case.entry.pairs.now)).number) }
     ensures mask { IfOk result (λ least. given_or 0 least ≡ (least_mask_of (started_of case.entry.image.now case.entry.program).machine (pairs_of case.entry.pairs.now)).mask) }
 {
     let started = start(case.image, case.program);

@@ -4,7 +4,7 @@
 
 ghost use Rattle.std.specs.Prelude.{◌≡◌, false, [], ◌∷◌, map, ◌++◌, ◌≤◌, length, drop};
 ghost use Rattle.std.specs.Int.Bits.{bit_or};
-ghost use Rattle.rules.specs.Refusals.{first, number_of, given_or};
+ghost use Rattle.rules.specs.Refusals.{first, outcome_number, given_or};
 ghost use Rattle.machine.specs.Calls.{any};
 ghost use Rattle.masks.specs.Least.{right_of, page_in, is_less, pair_checks, least_mask_of};
 ghost use Rattle.masks.specs.Search.{need_of, is_unmet, last_domain, least_from, needed_mask, mask_for};
@@ -33,7 +33,7 @@ fn page_in(pair: u32) -> u16
 // A pair is refused where it names no right or no page (RULES 12.4).
 #[tactic(auto, unfolding(crate::specs::Least::pair_checks))]
 fn check_pair(pages: u16, pair: u32) -> Result<(), Refusal>
-    ensures { number_of result ≡ first (pair_checks pages (pair ∷ [])) }
+    ensures { outcome_number result ≡ first (pair_checks pages (pair ∷ [])) }
 {
     if 1 < right_of(pair) {
         return Err(Refusal::NoSuchRight);
@@ -47,7 +47,7 @@ fn check_pair(pages: u16, pair: u32) -> Result<(), Refusal>
 // The first bad pair refuses a list.
 #[tactic(auto, using(crate::proofs::Lists::pairs_next), unfolding(crate::specs::Least::pair_checks))]
 fn check_pairs(pages: u16, pairs: &[u32]) -> Result<(), Refusal>
-    ensures { number_of result ≡ first (pair_checks pages pairs.now) }
+    ensures { outcome_number result ≡ first (pair_checks pages pairs.now) }
 {
     for pair in pairs {
         check_pair(pages, *pair)?;
@@ -128,7 +128,7 @@ fn least_from(needs: &[u16], rest: u16, mask: u16, best: u16) -> u16
 // The least mask within a context that meets all needs. The whole context will do if any mask does.
 #[tactic(auto, using(crate::proofs::Steps::needed_none, crate::proofs::Steps::needed_found))]
 fn needed_mask(needs: &[u16], context: u16) -> Result<u16, Refusal>
-    ensures number { number_of result ≡ (needed_mask needs.now context).number }
+    ensures number { outcome_number result ≡ (needed_mask needs.now context).number }
     ensures mask { given_or 0 result ≡ (needed_mask needs.now context).mask }
 {
     if any_unmet(needs, context) {
@@ -140,7 +140,7 @@ fn needed_mask(needs: &[u16], context: u16) -> Result<u16, Refusal>
 // The least mask for pairs of which there are not too many. What they need stands in an array of the most there may be, since the core has no heap.
 fn mask_for(machine: &Machine, pairs: &[u32]) -> Result<u16, Refusal>
     requires { length pairs.now ≤ 64 }
-    ensures number { number_of result ≡ (mask_for machine.now.pages machine.now.fields machine.now.registers.context pairs.now).number }
+    ensures number { outcome_number result ≡ (mask_for machine.now.pages machine.now.fields machine.now.registers.context pairs.now).number }
     ensures mask { given_or 0 result ≡ (mask_for machine.now.pages machine.now.fields machine.now.registers.context pairs.now).mask }
 {
     check_pairs(machine.pages, pairs)?;
@@ -152,7 +152,7 @@ fn mask_for(machine: &Machine, pairs: &[u32]) -> Result<u16, Refusal>
 // The least mask for a list of pairs, each right × 65,536 + page, on a machine (RULES, section 12).
 #[tactic(auto, using(crate::proofs::Numbers::unsound_first, crate::proofs::Numbers::too_many, crate::proofs::Numbers::masked_for))]
 pub fn least_mask(machine: Machine, pairs: &[u32]) -> Result<u16, Refusal>
-    ensures number { number_of result ≡ (least_mask_of machine pairs.now).number }
+    ensures number { outcome_number result ≡ (least_mask_of machine pairs.now).number }
     ensures mask { given_or 0 result ≡ (least_mask_of machine pairs.now).mask }
 {
     if !machine.sound() {

@@ -2,7 +2,7 @@
 #![tactic(auto)]
 
 ghost use Rattle.std.specs.Prelude.{◌≡◌, true, false, ◌≤◌, length, replicate};
-ghost use Rattle.rules.specs.Refusals.{pick, number_of, given_or};
+ghost use Rattle.rules.specs.Refusals.{pick, outcome_number, given_or};
 ghost use Rattle.machine.specs.Calls.{any};
 ghost use Rattle.planner.specs.Plan.{is_count, is_missing, plan_of};
 ghost use Rattle.planner.specs.Ways.{ends, marked};
@@ -33,7 +33,7 @@ fn any_missing(parents: &[u8]) -> bool
 #[tactic(auto, using(crate::proofs::Ways::out_ends, crate::proofs::Ways::none_left, crate::proofs::Ways::goes_up))]
 fn mark_way(parents: &[u8], contexts: &mut [u16; 16], context: u16) -> Result<(), Refusal>
     requires { length parents.now ≤ 16 }
-    ensures number { number_of result ≡ pick (ends parents.now (length parents.now) context) 0 32 }
+    ensures number { outcome_number result ≡ pick (ends parents.now (length parents.now) context) 0 32 }
     ensures contexts_after { contexts.new ≡ marked parents.now (length parents.now) context context contexts.old }
 {
     let mut at = usize::from(context);
@@ -55,7 +55,7 @@ fn mark_way(parents: &[u8], contexts: &mut [u16; 16], context: u16) -> Result<()
 fn plan_ways(parents: &[u8]) -> Result<[u16; 16], Refusal>
     requires counted { is_count (length parents.now) ≡ true }
     requires there { any (is_missing (length parents.now)) parents.now ≡ false }
-    ensures number { number_of result ≡ (plan_of parents.now).number }
+    ensures number { outcome_number result ≡ (plan_of parents.now).number }
     ensures contexts { given_or (replicate 16 0) result ≡ (plan_of parents.now).contexts }
 {
     let mut contexts = [0u16; 16];
@@ -69,7 +69,7 @@ fn plan_ways(parents: &[u8]) -> Result<[u16; 16], Refusal>
 // places (RULES 11.3, 11.4).
 #[tactic(auto, using(crate::proofs::Numbers::planned_count, crate::proofs::Numbers::planned_missing))]
 pub fn plan(parents: &[u8]) -> Result<[u16; 16], Refusal>
-    ensures number { number_of result ≡ (plan_of parents.now).number }
+    ensures number { outcome_number result ≡ (plan_of parents.now).number }
     ensures contexts { given_or (replicate 16 0) result ≡ (plan_of parents.now).contexts }
 {
     // One context at least, and a domain for each (RULES 11.4). Tested here and not by a function, so that the compiler knows the bound: a ring of sixteen takes a quarter less.

@@ -4,13 +4,13 @@
 #![tactic(auto)]
 
 ghost use Rattle.std.specs.Prelude.{◌≡◌, ◌≤◌, length, replicate, IfOk};
-ghost use Rattle.rules.specs.Refusals.{number_of, given_or};
+ghost use Rattle.rules.specs.Refusals.{outcome_number, given_or};
 ghost use Rattle.planner.specs.Plan.{plan_of};
 
 use image::bytes::word_at;
 use input::read_full;
 use planner::plan;
-use rules::{Refusal, number_of};
+use rules::{Refusal, outcome_number};
 use std::io;
 
 // Prints contexts in hexadecimal, a space before each, and ends the line; answers how many they are.
@@ -28,11 +28,11 @@ fn print_contexts(rt: &impl Print, contexts: &[u16]) -> io::Result<usize>
 
 // Plans a list, prints the plan, and hands it back.
 fn print_plan(rt: &impl Print, list: &[u8], which: u64) -> io::Result<Result<[u16; 16], Refusal>>
-    ensures number { IfOk result (λ planned. number_of planned ≡ (plan_of list.now).number) }
+    ensures number { IfOk result (λ planned. outcome_number planned ≡ (plan_of list.now).number) }
     ensures contexts { IfOk result (λ planned. given_or (replicate 16 0) planned ≡ (plan_of list.now).contexts) }
 {
     let planned = plan(list);
-    print!(rt; "{which} {}", number_of(planned))?;
+    print!(rt; "{which} {}", outcome_number(planned))?;
     print_contexts(rt, &planned.unwrap_or([0; 16]))?;
     Ok(planned)
 }

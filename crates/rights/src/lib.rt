@@ -10,7 +10,7 @@ ghost use Rattle.rights.specs.Site.{Whole, images_of, counted_of};
 ghost use Rattle.rights.specs.Adding.{added, Column, Within, with_images, IsSplit, IsCut};
 
 use image::bytes::{byte_at, field_at, word_of};
-use image::refusals::load_number;
+use image::refusals::check_load;
 use rules::domains::{domain_count, holds_domain};
 
 // What is counted over images (RULES 13.8): for each right the rights of domain s at place s, and their total at place 16; and the images that did not load.
@@ -60,7 +60,7 @@ impl Sums {
         requires { Within 1000000 self.old }
         ensures { self.new ≡ with_images self.old (Whole bytes.now ∷ []) }
     {
-        if load_number(bytes) != 0 {
+        if check_load(bytes).is_err() {
             self.refused += 1;
             return;
         }
