@@ -34,10 +34,3 @@ page_shifted byte exponent small = split (leb exponent 63) refl
         let past = leb-false exponent 63 e in
         let longer : 63 ≤ exponent = omega (arith, past) in
         div-eq_of_lt small ∙ sym (div-eq_of_lt (lt_of_lt_of_le small (pow_mono longer)))
-
-pub shift_fits : (exponent : ℕ) → pick (leb exponent 63) exponent 63 < 64
-shift_fits exponent = split (leb exponent 63) refl
-  where
-    split : (b : Bool) → leb exponent 63 ≡ b → pick b exponent 63 < 64
-    split true e = let most = leb-true exponent 63 e in omega (arith, most)
-    split false e = omega arith

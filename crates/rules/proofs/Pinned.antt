@@ -6,14 +6,16 @@ use mathlib.Core.Bool.{Bool, true, false, not}
 use mathlib.Core.List.{List, [], ◌∷◌, map}
 use lib.Count.{ones_in, count_trailing_zeros}
 use lib.Dec.{leb}
-use Rattle.rules.specs.Refusals.{first, pick, ◌⇒◌}
+use Rattle.rules.specs.Refusals.{first, pick, ◌⇒◌, refusal_number, outcome_number, given_or}
+use Rattle.rules.specs.declared.refusals.Refusal.{Refusal}
+use Rattle.rules.specs.declared.refusals.Refusal.TheVariants.{Unsound, NoSuchRight, OutsideMemory, NoSuchPage, NoSuchDomain, PrivilegedMode, UserMode, InterruptPending, Violation, NotPrevailing, NotLower, StackFull, StackEmpty, DepthNotOne, NoSuchProgram, NoSuchMode, NoSuchCall, EmptyMask, WrongLength, WrongKinds, WrongShapeEntry, WrongShape, WrongBodies, WrongModes, NotAtRest, ShortBuffer, WrongCount, NoSuchParent, Cycle, TooManyPairs, NoMask}
 use Rattle.rules.specs.Registers.{is_privileged, mode_where, local_context, with_context, with_mask, with_mode, with_pending, masked_of}
 use Rattle.rules.specs.Domains.{is_domain, domain_bit, holds, domain_count, prevailing, giving_domain, is_outside, is_not_lower, with_bit, without_bit}
 use Rattle.rules.specs.declared.registers.Masked.{Masked}
 use Rattle.rules.specs.declared.registers.Mode.{Mode}
 use Rattle.rules.specs.declared.registers.Mode.TheVariants.{User, Privileged}
 use Rattle.rules.specs.declared.registers.Registers.{Registers}
-use Rattle.std.specs.Prelude.{Option, None, Some}
+use Rattle.std.specs.Prelude.{Option, None, Some, Ok, Err}
 
 -- the first condition that is met decides, and 0 stands for none
 pub first_met :
@@ -147,3 +149,24 @@ pub empty_masks :
     ∷ gives 0 (registers 0x4081 0x7F7E User false) ∷ gives 19 (registers 0x4081 0 User false) ∷ [])
 unfolding masked_of
 empty_masks = (refl, refl, refl)
+
+-- the number of each refusal (RULES 9.1), in the table's order
+pub refusals_numbered :
+    map refusal_number
+    (
+    Unsound ∷ NoSuchRight ∷ OutsideMemory ∷ NoSuchPage ∷ NoSuchDomain ∷ PrivilegedMode ∷ UserMode ∷ InterruptPending ∷ Violation ∷ NotPrevailing ∷
+    NotLower ∷ StackFull ∷ StackEmpty ∷ DepthNotOne ∷ NoSuchProgram ∷ NoSuchMode ∷ NoSuchCall ∷ EmptyMask ∷ WrongLength ∷ WrongKinds ∷
+    WrongShapeEntry ∷ WrongShape ∷ WrongBodies ∷ WrongModes ∷ NotAtRest ∷ ShortBuffer ∷ WrongCount ∷ NoSuchParent ∷ Cycle ∷ TooManyPairs ∷ NoMask ∷ []
+    )
+    ≡ (
+    1 ∷ 2 ∷ 3 ∷ 4 ∷ 5 ∷ 6 ∷ 7 ∷ 8 ∷ 9 ∷ 11 ∷ 12 ∷ 13 ∷ 14 ∷ 15 ∷ 16 ∷ 17 ∷ 18 ∷ 19 ∷ 20 ∷ 21 ∷ 22 ∷ 23 ∷ 24 ∷ 25 ∷ 26 ∷ 27 ∷ 30 ∷ 31 ∷ 32 ∷ 33 ∷ 34 ∷ []
+    )
+refusals_numbered = refl
+
+-- the number of an outcome, and what it gives
+pub outcomes_numbered : (refusal : Refusal) (given other : ℕ)
+    → (outcome_number (Ok given) ≡ 0)
+    × (outcome_number {A = ℕ} (Err refusal) ≡ refusal_number refusal)
+    × (given_or other (Ok given) ≡ given)
+    × (given_or other (Err refusal) ≡ other)
+outcomes_numbered refusal given other = (refl, refl, refl, refl)
