@@ -77,7 +77,7 @@ fn run_cases(rt: &impl Print, bytes: &[u8]) -> io::Result<usize>
     Ok(at)
 }
 
-// A buffer for the cases. Its contract tells `main` its length alone: a proof that has half a million zeros in sight does not end.
+// A buffer for the cases, of a fixed size as all memory of the core's programs is. Its contract tells `main` its length alone: a proof that has half a million zeros in sight does not end.
 fn buffer() -> [u8; 524288]
     ensures { 524288 ≡ length result }
 {

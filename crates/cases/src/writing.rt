@@ -1,6 +1,7 @@
 // A case of writing: two rounds of a load, calls and a write, the second on the image that the first one wrote. Its bytes are the room of the
 // lent buffer (2 bytes, high byte first) and an input as `pagerun` takes it. A record's line has what the call by value named, as that of a run has it. What
-// the question for the last violation hands out, which a run does not show, is printed here.
+// the question for the last violation hands out, which a run does not show, is printed here. No contract can say what is printed, and every function
+// states an outcome: so those that print hand a value back.
 ghost use Rattle.std.specs.Prelude.{◌≡◌, ◌<◌, ◌⊎◌, length, drop, replicate, IfOk, OnOk, OnErr};
 ghost use Rattle.image.specs.Write.{written_of, buffer_after};
 ghost use Rattle.run.specs.Records.{calls_of, step_of};

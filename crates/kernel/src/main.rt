@@ -29,7 +29,7 @@ pub enum Request {
     ReplaceMask(u16),
 }
 
-// The numbers of the three calls with which a turn begins, and the machine after them.
+// The numbers of the three calls with which a turn begins, as the machine answers them, and the machine after the calls.
 #[derive(Clone, Copy)]
 pub struct Begun {
     pub entry: u8,

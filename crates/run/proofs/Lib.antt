@@ -1,4 +1,3 @@
-pub mod Parts
 pub mod Steps
 pub mod Sent
 pub mod Given

@@ -14,7 +14,6 @@ use Rattle.machine.specs.declared.record.Answered.{Answered}
 use Rattle.image.specs.Bytes.{word_at}
 use Rattle.run.specs.Records.{calls_of}
 use Rattle.run.specs.Run.{answers_of, call_answers, call_bytes, call_reports, call_steps, loaded_of, name_of, numbers_of, reports_of, sent, sent_reports, steps_from}
-use Rattle.run.proofs.Parts.{calls_part}
 use Rattle.run.proofs.Steps.{count_calls, count_steps}
 
 -- what the contract of `run_named` says of a count, of the answers at exit and of the names at exit; that of `bench_run` has no names
@@ -36,7 +35,7 @@ long_sends input entry names h = nothing_sent input entry names (rw (lt-ltb 3276
 
 -- how many bytes the calls are read from
 pub bytes_left : (input : List ℕ) {end : ℕ} → end ≡ min (2 + word_at input 0) (length input) → length (call_bytes input) ≡ length input - end
-bytes_left input {end} ends = rw (← calls_part input ends) (length-drop end input)
+bytes_left input ends = simp length-drop (omega (arith, ends))
 
 -- one answer of the load, and one of every six bytes after the image
 pub answers_count : (input : List ℕ) → length (answers_of input) ≡ pick (eqb (loaded_of input).number 0) (1 + length (call_bytes input) / 6) 1

@@ -50,7 +50,7 @@ pub fn decode(bytes: [u8; 6]) -> Option<Call>
 }
 
 // What is given back where no more than a number is answered.
-pub fn silent(machine: Machine, number: u8) -> Answered
+pub(crate) fn silent(machine: Machine, number: u8) -> Answered
     ensures { result ≡ silent number machine }
 {
     Answered {
