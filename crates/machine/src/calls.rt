@@ -107,8 +107,9 @@ fn denied(fields: &[u16], exponent: u8, local: u16, right: u8, address: u32, ahe
     field_at(fields, exponent, right, address, ahead) & local == 0
 }
 
-// The page of some byte that an access touches does not give the right (RULES 3.2, for 9). Each page is asked by itself: fields are never joined. Two
-// bytes on one page, as most are, ask it once.
+// The page of some byte that an access touches does not give the right (RULES 3.2, for 9). What is looked at comes from three places, the lent fields,
+// the machine and the live registers, and is handed on as it is: a struct of it would be made here alone, to be taken apart two lines below.
+// Each page is asked by itself: fields are never joined. Two bytes on one page, as most are, ask it once.
 fn any_denied(
     fields: &[u16],
     exponent: u8,
@@ -275,7 +276,8 @@ impl Machine {
         )
     }
 
-    // The grant or the revocation on lent fields, which it alters there: its number (RULES 2.10).
+    // The grant or the revocation on lent fields, which it alters there: its number (RULES 2.10). Which of the two is told by a flag, as the definition
+    // has it (`change_call`); a closure for the bit operation would have to be tied to the call that it stands for.
     pub fn change_lent(
         self,
         fields: &mut [u16],

@@ -38,7 +38,8 @@ pub struct Violations {
     pub last: Option<Violation>,
 }
 
-// The parts of RULES 1.2. The field of a right r to page p stands at 2p + r. A saved mode is kept as whether it is privileged.
+// The parts of RULES 1.2. The field of a right r to page p stands at 2p + r. A saved mode is kept as whether it is privileged,
+// which is what the definitions have (`with_stack`, RULES 2.10).
 #[derive(Clone, Copy, Debug, PartialEq, Eq)]
 pub struct Machine {
     pub pages: u16,
@@ -61,7 +62,9 @@ pub enum Report {
     Through(Domain),
 }
 
-// What a call gives back: its number, the machine after it, and what it reports (RULES 2.1).
+// What a call gives back: its number, the machine after it, and what it reports (RULES 2.1). The number is that of RULES 9.1, and no `Result`: the
+// definitions give it (`call_of`), the laws and the library for C speak of it, and a refusal with 9 gives a machine too. `Result` in the calls
+// themselves was tried (rules/src/decisions.rt).
 #[derive(Clone, Copy, Debug, PartialEq, Eq)]
 pub struct Answered {
     pub number: u8,
@@ -76,7 +79,8 @@ pub enum Width {
     Two,
 }
 
-// One of the twelve calls (RULES 2.1), with arguments as RULES 2.6 has them.
+// One of the twelve calls (RULES 2.1), with arguments as RULES 2.6 has them: any number is a right, and what is none is refused with 2. An enum of
+// the two rights would take that from callers.
 #[derive(Clone, Copy, Debug, PartialEq, Eq)]
 pub enum Call {
     Access(Width, u8, u32),

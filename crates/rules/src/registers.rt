@@ -63,6 +63,7 @@ impl Registers {
         self.context & self.mask
     }
 
+    // The four below replace a field each. They are four since a field cannot be handed over; each has the definition of its name.
     pub fn with_context(self, bits: u16) -> Registers
         ensures { result ≡ with_context bits self }
     {

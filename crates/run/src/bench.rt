@@ -50,7 +50,7 @@ fn name_of(report: Report) -> u32
 }
 
 // What a report names, stored at a place of a lent buffer of names; past its end nothing is stored, so that who wants no names lends no
-// place past the load's.
+// place past the load's. The bound stands here and not in `store_at`, since a must-fail edit moves it.
 fn store_name(names: &mut [u32], at: usize, report: Report)
     ensures { names.new ≡ set names.old at (name_of report) }
 {
