@@ -20,7 +20,7 @@ const READ: u8 = 0;
 const WRITE: u8 = 1;
 
 // What a program asks its kernel for: the accesses of its instructions, to one byte or to two, and its commands.
-#[derive(Clone, Copy)]
+#[derive(Clone, Copy, Debug, PartialEq, Eq)]
 pub enum Request {
     Read(Width, u32),
     Write(Width, u32),
@@ -30,7 +30,7 @@ pub enum Request {
 }
 
 // The numbers of the three calls with which a turn begins, as the machine answers them, and the machine after the calls.
-#[derive(Clone, Copy)]
+#[derive(Clone, Copy, Debug, PartialEq, Eq)]
 pub struct Begun {
     pub entry: u8,
     pub switch: u8,
@@ -39,7 +39,7 @@ pub struct Begun {
 }
 
 // How many requests of a list were refused, and the machine after the last.
-#[derive(Clone, Copy)]
+#[derive(Clone, Copy, Debug, PartialEq, Eq)]
 pub struct Served {
     pub refused: usize,
     pub machine: Machine,

@@ -19,7 +19,7 @@ use rules::{Refusal, outcome_number};
 use std::io;
 
 // What is asked: an image, a program of it, and the bytes of the pairs.
-#[derive(Clone, Copy)]
+#[derive(Clone, Copy, Debug, PartialEq, Eq)]
 struct Case<'a> {
     image: &'a [u8],
     program: u16,
