@@ -3,8 +3,8 @@
 
 Usage: documents.py [ROOT]   (ROOT is the repository's root, by default the current folder; after `rt ci`, which builds the programs)
 
-The documents are README.md, docs/*.md, docs/landings/*.md and tests/oracle/README.md. docs/PORT.md is none of them: it sets the text of an
-older Rattle beside today's. A fault is:
+The documents are README.md, docs/*.md, docs/landings/*.md and tests/oracle/README.md. docs/PORT.md and
+docs/DESIGN-PASS.md are none of them: they set older text beside today's. A fault is:
 
 paths       A file, folder or glob that is not there: in backticks, in a link, or written as a path. A path starts at the root, below
             crates/, or in the document's own folder; one that starts nowhere of these, or is a file's name alone, may end a path anywhere.
@@ -601,7 +601,7 @@ def difference(due, said):
 def documents_in(root):
     """The documents of the repository, in order."""
     paths = [root / 'README.md', *sorted(root.glob('docs/*.md')), *sorted(root.glob('docs/landings/*.md')), root / 'tests/oracle/README.md']
-    return [Document(root, path) for path in paths if path.exists() and path != root / 'docs/PORT.md']
+    return [Document(root, path) for path in paths if path.exists() and path.name not in ('PORT.md', 'DESIGN-PASS.md')]
 
 
 def main():

@@ -21,6 +21,7 @@ TREE = {
     'tests/oracle/src/cases/named.rs': '// RULES 2.1\nfn main() { run("cases-input") }\n',
     'tests/refused.py': '',
     'docs/PORT.md': 'Of an older Rattle: `gone_name`, crates/gone, 12 functions, ' + 'x' * 121 + '\n',
+    'docs/DESIGN-PASS.md': 'Of an older form: `gone_name`, crates/gone, 12 functions, ' + 'x' * 121 + '\n',
     'crates.txt': 'machine:\nkernel: machine\n',
     'crates/machine/src/lib.rt': '// A machine (RULES 1.1,\n// 1.2).\npub struct Machine { pub number: u8 }\n'
                                  'pub fn zero() -> Machine { .. } // never ghostly_name\npub fn access_lent(right: u8) { .. }\n',
