@@ -21,7 +21,9 @@ pub extern "C" fn core_count_rights(input: &[u8], sums: &mut [u32]) -> u32 {
     if sums.len() < 34 {
         return 0;
     }
-    let counted = count_rights(input);
+    let Some(counted) = count_rights(input) else {
+        return 0;
+    };
     let reads = counted.reads;
     let writes = counted.writes;
     let mut s: usize = 0;
