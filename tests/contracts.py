@@ -45,7 +45,7 @@ def stated(text, at, traits):
     header = list(re.finditer(r'^(?:impl(?:<[^>]*>)?\s+(\w+)(?:<[^>]*>)?\s+for\b|impl\b|pub\b|fn\b|trait\b|mod\b)', text[:at], re.M))
     if not header or not header[-1][1]:
         return False
-    return header[-1][1] in traits or re.search(r'^\s*ghost\s+\w+\s*=', text[header[-1].end():at], re.M) is not None
+    return header[-1][1] in traits or re.search(r'^\s*ghost\s+(?:try_)?from_gives\s*=', text[header[-1].end():at], re.M) is not None
 
 
 def main():

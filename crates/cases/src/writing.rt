@@ -14,17 +14,14 @@ use rules::{Refusal, outcome_number};
 use run::{decode, split_input};
 use std::io;
 
-// The call of a record on a machine by value, or 18 for a record that is none.
+// The call of a record on a machine by value, or 18 for a record that is none. The run's `step` makes the same calls on lent parts and without the
+// test for soundness.
 #[tactic(auto, unfolding(run::specs::Records::step_by))]
 fn call_on(machine: Machine, call: Option<Call>) -> Answered
     ensures { result ≡ step_of machine call }
 {
     match call {
-        None => Answered {
-            number: Refusal::NoSuchCall as u8,
-            machine,
-            report: Report::Nothing,
-        },
+        None => machine.silent(Refusal::NoSuchCall as u8),
         Some(Call::Access(width, right, address)) => machine.access(width, right, address),
         Some(Call::Grant(right, page, domain)) => machine.grant(right, page, domain),
         Some(Call::Revoke(right, page, domain)) => machine.revoke(right, page, domain),

@@ -70,7 +70,7 @@ pub fn shape_at(bytes: &[u8]) -> Shape
     }
 }
 
-// The READ or WRITE field at a place of the pages.
+// The READ or WRITE field at a place of the pages: the word there, under the name of its definition.
 pub fn field_at(bytes: &[u8], at: u16) -> u16
     ensures { result ≡ field_at bytes.now at }
 {

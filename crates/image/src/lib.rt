@@ -1,7 +1,7 @@
 // Images (RULES, section 5): the loader, from bytes to a number and a machine, and the writer, from a machine to bytes.
 #![tactic(auto)]
 
-pub mod body;
+mod body;
 pub mod bytes;
 pub mod loader;
 pub mod refusals;

@@ -34,7 +34,8 @@ fn machine_of(bytes: &[u8]) -> Machine
     }
 }
 
-// The load of an image: its number, and the machine it describes where that is 0, the all-zero machine where not.
+// The load of an image: its number, and the machine it describes where that is 0, the all-zero machine where not. No `Result`, since a refused load
+// gives a machine too (RULES 5.10).
 #[tactic(auto, using(rules::proofs::Outcomes::refused), unfolding(crate::specs::Load::load_of))]
 pub fn load(bytes: &[u8]) -> Answered
     ensures { result ≡ load_of bytes.now }
@@ -44,9 +45,5 @@ pub fn load(bytes: &[u8]) -> Answered
         Ok(()) => machine_of(bytes),
         Err(_) => Machine::zero(),
     };
-    Answered {
-        number: outcome_number(outcome),
-        machine,
-        report: Report::Nothing,
-    }
+    machine.silent(outcome_number(outcome))
 }

@@ -61,7 +61,7 @@ fn write_image(buf: &mut [u8], counts: Shape, fields: &[u16], table: &[Program])
     program_place(counts.pages, counts.programs) as usize
 }
 
-// The live registers as a program's entry.
+// The live registers as a program's entry. No `From`: neither type is this crate's.
 fn entry_of(registers: Registers) -> Program
     ensures { result ≡ entry_of registers }
 {

@@ -29,7 +29,8 @@ pub enum Request {
     ReplaceMask(u16),
 }
 
-// The numbers of the three calls with which a turn begins, as the machine answers them, and the machine after the calls.
+// The numbers of the three calls with which a turn begins, as the machine answers them, and the machine after the calls. Numbers, as
+// `begun_of` and its theorems have them.
 #[derive(Clone, Copy, Debug, PartialEq, Eq)]
 pub struct Begun {
     pub entry: u8,
@@ -154,7 +155,7 @@ fn main(rt: HostRuntime) -> io::Result<()> {
         begun.machine,
         &[
             Request::Read(Width::Two, 511),
-            Request::GrantRight(0, Page(2), Domain(4)),
+            Request::GrantRight(READ, Page(2), Domain(4)),
             Request::Write(Width::One, 0),
         ],
     );

@@ -37,11 +37,7 @@ fn start(image: &[u8], program: u16) -> Answered
     let entered = loaded.machine.enter();
     let switched = entered.machine.switch_to(program);
     if switched.number != 0 {
-        return Answered {
-            number: switched.number,
-            machine: Machine::zero(),
-            report: Report::Nothing,
-        };
+        return Machine::zero().silent(switched.number);
     }
     switched.machine.leave()
 }
@@ -54,7 +50,8 @@ fn pair_at(bytes: &[u8], at: u32) -> u32
     65536 * (word_at(bytes, at) as u32) + word_at(bytes, 2 + at) as u32
 }
 
-// Stores the pairs of a string of bytes in a lent slice, from its first place on.
+// Stores the pairs of a string of bytes in a lent slice, from its first place on. By index: a proof knows no element of a slice that was lent to
+// `iter_mut`.
 fn store_pairs(pairs: &mut [u32], bytes: &[u8])
     requires bytes_len_bound { length bytes.now ≤ 65536 }
     requires bytes_in_bounds { length bytes.now / 4 ≤ length pairs.old }
@@ -71,6 +68,7 @@ fn ask(machine: Machine, bytes: &[u8]) -> Result<u16, Refusal>
     ensures number { outcome_number result ≡ (least_mask_of machine (pairs_of bytes.now)).number }
     ensures mask { given_or 0 result ≡ (least_mask_of machine (pairs_of bytes.now)).mask }
 {
+    // As many as the bytes can have: no program takes memory from a heap.
     let mut pairs = [0u32; 16384];
     store_pairs(&mut pairs, bytes);
     least_mask(machine, &pairs[..bytes.len() / 4])
@@ -162,6 +160,7 @@ fn print_cases(rt: &impl Print, bytes: &[u8]) -> io::Result<usize>
 }
 
 fn main(rt: HostRuntime) -> io::Result<()> {
+    // Fixed memory: no program takes any from a heap.
     let mut bytes = [0u8; 65536];
     let got = read_full(&mut rt.stdin(), &mut bytes)?;
     print_cases(&rt, &bytes[..got])?;

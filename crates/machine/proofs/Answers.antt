@@ -125,7 +125,10 @@ module _ (m : Machine) (call : Call) where
   pub sound_unchecked : is_sound m ≡ true → call_of m call ≡ unchecked_of m call
   sound_unchecked sound = rw (call_checked, sound)
 
-  -- the end of a public method whose test for soundness held
+  -- the two ends of a public method, from the test for soundness
+  pub unsound_answers : {sound : Bool} → sound ≡ is_sound m → not sound ≡ true → silent 1 m ≡ call_of m call
+  unsound_answers {sound} tested not_sound = rw (call_checked, ← tested, not-true sound not_sound)
+
   pub sound_answers : {sound : Bool} {r : Answered} → sound ≡ is_sound m → not sound ≡ false → r ≡ unchecked_of m call → r ≡ call_of m call
   sound_answers {sound} tested is-sound answer = answer ∙ sym (sound_unchecked (sym tested ∙ not-false sound is-sound))
 

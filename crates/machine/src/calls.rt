@@ -1,7 +1,8 @@
 // The twelve calls (RULES, sections 2 and 3). Beside each public method stands the call without the check for 1 (RULES 2.8), for a
 // caller that knows its machine to be sound: by value (`.._unchecked`), or on a part of the machine that the caller keeps beside it and
 // lends (`.._lent`), so that a loop over calls need not carry fields and stack in its machine. The public method is that call behind one test
-// for soundness; where the test fails it answers `unsound`. The switch alone hands its test on (docs/PERFORMANCE.md).
+// for soundness; where the test fails it answers `unsound`. The two lines stand in each: a closure for the rest of a call would say no more, and its
+// contract would be `F.pre` and `F.post`. The switch alone hands its test on (docs/PERFORMANCE.md).
 // In the calls themselves an array is indexed only in a local or lent, the number comes first, what an accepted call changes is
 // chosen by it, and the answer is made once at the end.
 ghost use Rattle.std.specs.Prelude.{◌≡◌, false, ◌+◌, ◌*◌, ◌^◌, ◌/◌, leb, eqb, get_or};
@@ -20,7 +21,7 @@ use crate::record::{
 };
 use rules::Refusal;
 use rules::decisions::{
-    access_number, change_number, entry_number, field_number, mode_number, register_number,
+    access_number, change_number, chosen, entry_number, field_number, mode_number, register_number,
     return_number, switch_number,
 };
 use rules::domains::{
@@ -30,24 +31,6 @@ use rules::registers::{Mode, Registers, replace_mask};
 
 // The one number of a refusal that changes the machine (RULES 2.5).
 const VIOLATION: u8 = Refusal::Violation as u8;
-
-// The new value where a call was accepted, else the old one.
-fn chosen(done: bool, new: u16, old: u16) -> u16
-    ensures { result ≡ pick done new old }
-{
-    if done { new } else { old }
-}
-
-// A number behind the test for 1 (RULES 2.4).
-fn checked(unsound: bool, number: u8) -> u8
-    ensures { result ≡ pick unsound 1 number }
-{
-    if unsound {
-        Refusal::Unsound as u8
-    } else {
-        number
-    }
-}
 
 // The bits of a field after an accepted grant or revocation.
 fn changed_bits(granting: bool, field: u16, s: u16) -> u16
@@ -154,8 +137,8 @@ impl Answered {
 }
 
 impl Machine {
-    // An answer that reports nothing (RULES 2.13).
-    fn silent(self, number: u8) -> Answered
+    // An answer that reports nothing (RULES 2.13): this machine, and a number.
+    pub fn silent(self, number: u8) -> Answered
         ensures { result ≡ silent number self }
     {
         Answered {
@@ -180,12 +163,12 @@ impl Machine {
         self.silent(number)
     }
 
-    // The answer of a call that replaces the live registers where it is accepted, and changes nothing else.
+    // The answer of a call that replaces the live registers where it is accepted, and changes nothing else. Here, and in the calls on a lent stack, the
+    // answer is written out: with `silent` in its place the run copied the machine, 170 instructions for an entry in place of 38.
     fn with_registers_where(mut self, number: u8, registers: Registers) -> Answered
         ensures { result ≡ silent number (with_registers (pick (eqb number 0) registers self.registers) self) }
     {
-        let live = self.registers;
-        self.registers = live.replaced_where(number == 0, registers);
+        self.registers = chosen(number == 0, registers, self.registers);
         Answered {
             number,
             machine: self,
@@ -424,8 +407,9 @@ impl Machine {
         let mut registers = self.registers;
         let mut current = self.current;
         let mut table = self.table;
-        let number = checked(
+        let number = chosen(
             unsound,
+            Refusal::Unsound as u8,
             switch_number(
                 !registers.privileged(),
                 !(self.depth == 1),

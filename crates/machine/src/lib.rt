@@ -10,5 +10,4 @@ pub use lent::set_mask_lent;
 pub use record::{
     Answered, Call, Domain, Machine, Page, Program, Report, Violation, Violations, Width,
 };
-pub use rules::refusals::{Refusal, outcome_number};
 pub use rules::registers::{Mode, Registers};

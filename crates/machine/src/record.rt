@@ -32,7 +32,8 @@ pub struct Violation {
     pub address: u32,
 }
 
-// What the machine keeps of violations: the last one, if there was one since the load.
+// What the machine keeps of violations: the last one, if there was one since the load. A struct of its own, since the definitions and laws say
+// `violations.last` (`with_last`, `violation_fits`, `last_unseen`).
 #[derive(Clone, Copy, Debug, PartialEq, Eq)]
 pub struct Violations {
     pub last: Option<Violation>,
@@ -196,7 +197,7 @@ pub fn memory_size(pages: u16, exponent: u8) -> u32
 fn shift_of(exponent: u8) -> u8
     ensures { result ≡ pick (leb exponent 63) exponent 63 }
 {
-    if exponent <= 63 { exponent } else { 63 }
+    exponent.min(63)
 }
 
 // The page of the byte that stands so far ahead of an address (RULES 1.9), of any exponent. The sum has room in 64 bits, so that nothing wraps.

@@ -63,7 +63,7 @@ fn need_of(machine: &Machine, pair: u32) -> u16
     machine.fields.get(at).copied().unwrap_or(0) & machine.registers.context
 }
 
-// Stores what each pair needs in a lent slice, from its first place on.
+// Stores what each pair needs in a lent slice, from its first place on. By index: a proof knows no element of a slice that was lent to `iter_mut`.
 fn store_needs(needs: &mut [u16], machine: &Machine, pairs: &[u32])
     requires { length pairs.now ≤ length needs.old }
     ensures { needs.new ≡ map (need_of machine.now.fields machine.now.registers.context) pairs.now ++ drop (length pairs.now) needs.old }

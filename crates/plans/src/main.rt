@@ -57,6 +57,7 @@ fn print_plans(rt: &impl Print, bytes: &[u8]) -> io::Result<usize>
 }
 
 fn main(rt: HostRuntime) -> io::Result<()> {
+    // Fixed memory: no program takes any from a heap.
     let mut bytes = [0u8; 65536];
     let got = read_full(&mut rt.stdin(), &mut bytes)?;
     print_plans(&rt, &bytes[..got])?;

@@ -33,7 +33,7 @@ fn add_field(column: &mut [u32; 17], field: u16)
     column[16] += domain_count(field);
 }
 
-// Adds the fields of a right to so many pages of an image, as its bytes have them: from byte 22 on, two fields of two bytes for each page (RULES 5.5).
+// Adds the fields of a right, by its number as `place_of` has it, to so many pages of an image, as its bytes have them: from byte 22 on, two fields of two bytes for each page (RULES 5.5).
 fn add_fields(column: &mut [u32; 17], bytes: &[u8], right: u16, pages: u8)
     requires { (right ≤ 1) × Column 1000000 column.old }
     ensures { column.new ≡ added column.old (entries 1 (λ page. field_at bytes.now (22 + 2 * place_of right page)) 0 pages) }
@@ -43,7 +43,8 @@ fn add_fields(column: &mut [u32; 17], bytes: &[u8], right: u16, pages: u8)
     }
 }
 
-// The image that stands first in what is left of an input, and what is left behind it; none where nothing is left, or an image that is cut.
+// The image that stands first in what is left of an input, and what is left behind it; none where nothing is left, or an image that is cut. The test
+// programs read their lists so too, by contracts of a length alone: this one names the definitions `IsSplit` and `IsCut`.
 fn first_image(left: &[u8]) -> Option<(&[u8], &[u8])>
     ensures { MatchOption result (IsCut left.now) (λ split. IsSplit left.now split.0.now split.1.now) }
 {

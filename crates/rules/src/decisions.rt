@@ -1,11 +1,19 @@
 // The number of each call from its own conditions (RULES, section 3): that of the first one that is met.
 // The test for 1, which stands before them all, is the machine's.
 // A number, 0 where nothing refuses the call, and no `Result`: that was tried, and the run's accesses to two bytes and its grants became slower than
-// plain C's, which they are faster than with numbers (docs/PERFORMANCE.md).
+// plain C's, which they are faster than with numbers (docs/PERFORMANCE.md). A variant's number is known when it is compiled, so that it is
+// spelled `as u8`. The conditions come as bools, since the machine works them out and only their order is this file's.
 ghost use Rattle.std.specs.Prelude.{◌≡◌, [], ◌∷◌};
 ghost use Rattle.rules.specs.Refusals.{first, pick, ◌⇒◌};
 
 use crate::refusals::Refusal;
+
+// The first of two values where a condition is met, else the second.
+pub fn chosen<T: Copy>(met: bool, first: T, second: T) -> T
+    ensures { result ≡ pick met first second }
+{
+    if met { first } else { second }
+}
 
 pub fn access_number(
     badright: bool,

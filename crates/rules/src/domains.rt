@@ -72,7 +72,8 @@ pub fn prevailing_of(field: u16) -> Option<u16>
 }
 
 // The lowest-numbered domain that a field and a local context both hold, through which the field gives its right (RULES 1.17); 16 where they share none, which no
-// call by value reports (`named_lowest`, machine/proofs/Named.antt). A number and no `Option`: that is what the definition gives.
+// call by value reports (`named_lowest`, machine/proofs/Named.antt). A number and no `Option`: `domain_through` (machine/specs/Calls.antt)
+// and the law `named_lowest` are about the number, and the one caller asks only where a domain is named.
 #[tactic(auto, unfolding(crate::specs::Domains::giving_domain))]
 pub fn giving_domain(field: u16, local: u16) -> u16
     ensures { result ≡ giving_domain field local }

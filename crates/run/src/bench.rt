@@ -9,10 +9,10 @@ ghost use Rattle.image.specs.Load.{load_of};
 ghost use Rattle.run.specs.Records.{calls_of};
 ghost use Rattle.run.specs.Run.{image_of, call_bytes, steps_from, numbers_of, reports_of, sent, sent_reports, name_of};
 
-use crate::records::{decode, silent, step};
+use crate::records::{decode, step};
 use image::bytes::word_at;
 use image::load;
-use machine::record::{Answered, Machine, Report};
+use machine::record::{Answered, Machine, Report, store_at};
 
 // Where the calls of an input start: past its image, or at its end.
 pub fn calls_start(input: &[u8]) -> usize
@@ -50,13 +50,11 @@ fn name_of(report: Report) -> u32
 }
 
 // What a report names, stored at a place of a lent buffer of names; past its end nothing is stored, so that who wants no names lends no
-// place past the load's. The bound stands here and not in `store_at`, since a must-fail edit moves it.
+// place past the load's.
 fn store_name(names: &mut [u32], at: usize, report: Report)
     ensures { names.new ≡ set names.old at (name_of report) }
 {
-    if at < names.len() {
-        names[at] = name_of(report);
-    }
+    store_at(names, at, name_of(report));
 }
 
 // The answers of the calls, stored from the second place of the buffer on; the caller has counted them with the load's, and has seen that there
@@ -70,7 +68,7 @@ fn answer_calls(start: Machine, calls: &[u8], answers: &mut [u8], names: &mut [u
 {
     let mut fields = start.fields;
     let mut saved = start.saved;
-    let mut answered = silent(start, 0);
+    let mut answered = start.silent(0);
     let (records, _) = calls.as_chunks::<6>();
     for (i, record) in records.iter().enumerate() {
         answered = step(answered.machine, &mut fields, &mut saved, decode(*record));

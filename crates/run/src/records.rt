@@ -1,7 +1,7 @@
 // The records of calls, decoded and taken as steps of a machine (RULES, section 6).
 ghost use Rattle.std.specs.Prelude.{◌≡◌, ◌+◌, ◌*◌, [], ◌∷◌};
 ghost use Rattle.machine.specs.Machine.{with_lent};
-ghost use Rattle.machine.specs.Calls.{keeping, silent};
+ghost use Rattle.machine.specs.Calls.{keeping};
 ghost use Rattle.run.specs.Records.{call_of_kind, calls_of, unchecked_step_of};
 
 use image::bytes::word_of;
@@ -17,7 +17,7 @@ fn address_of(a: u16, b: u16) -> u32
 
 // The call of a kind, with the parts of its record (RULES 6.5), or that there is none. The kind and the right are the record's bytes as they stand,
 // and neither has an enum: a kind past the last is no call, and a right above 1 is an argument that the call refuses with 2. Each arm has its own
-// `Some`, as the table `kinds` has; one `Some` around the whole costs the run two instructions a call.
+// `Some`, as the table `kinds` has; one `Some` around the whole cost the run more instructions a call.
 #[tactic(auto, unfolding(crate::specs::Records::call_of_kind))]
 pub fn call_of_kind(kind: u8, right: u8, a: u16, b: u16) -> Option<Call>
     ensures { result ≡ call_of_kind kind right a b }
@@ -49,20 +49,9 @@ pub fn decode(bytes: [u8; 6]) -> Option<Call>
     call_of_kind(kind, right, word_of(a_high, a_low), word_of(b_high, b_low))
 }
 
-// What is given back where no more than a number is answered.
-pub(crate) fn silent(machine: Machine, number: u8) -> Answered
-    ensures { result ≡ silent number machine }
-{
-    Answered {
-        number,
-        machine,
-        report: Report::Nothing,
-    }
-}
-
 // One step: the call on the machine with the lent fields and the lent stack, without the check for 1, or 18 for a record that is none. They
 // are lent, since a machine that goes through a loop with them inside is copied at every turn; the machine that comes back keeps its own. Each arm
-// returns, since the value of a `match` is copied as well: 202 instructions a call of the bench's mix in place of 54.
+// returns, since the value of a `match` is copied as well: over 200 instructions a call of the bench's mix in place of 55.
 pub fn step(
     machine: Machine,
     fields: &mut [u16],
@@ -74,7 +63,7 @@ pub fn step(
     ensures saved_after { saved.new ≡ (unchecked_step_of (with_lent fields.old saved.old machine) call).machine.saved }
 {
     let Some(call) = call else {
-        return silent(machine, Refusal::NoSuchCall as u8);
+        return machine.silent(Refusal::NoSuchCall as u8);
     };
     match call {
         Call::Access(width, right, address) => {
@@ -82,11 +71,11 @@ pub fn step(
         }
         Call::Grant(right, page, domain) => {
             let number = machine.change_lent(fields, true, right, page, domain);
-            return silent(machine, number);
+            return machine.silent(number);
         }
         Call::Revoke(right, page, domain) => {
             let number = machine.change_lent(fields, false, right, page, domain);
-            return silent(machine, number);
+            return machine.silent(number);
         }
         Call::SetMask(mask) => return machine.set_mask_unchecked(mask),
         Call::Enter => return machine.enter_lent(saved),
@@ -94,7 +83,7 @@ pub fn step(
         Call::Switch(program) => return machine.switch_lent(saved, program),
         Call::StoreField(right, page, bits) => {
             let number = machine.store_lent(fields, right, page, bits);
-            return silent(machine, number);
+            return machine.silent(number);
         }
         Call::StoreContext(bits) => return machine.store_context_unchecked(bits),
         Call::StoreMask(bits) => return machine.store_mask_unchecked(bits),

@@ -13,7 +13,9 @@ use Rattle.rules.specs.Refusals.{pick}
 use Rattle.image.specs.Bytes.{word_at}
 use Rattle.machine.specs.declared.record.Report.{Report}
 use Rattle.machine.specs.declared.record.Report.TheVariants.{Nothing, Denied, Through}
-use Rattle.run.specs.Run.{answers_of, call_answers, call_bytes, call_reports, call_steps, is_long, loaded_of, name_of, report_named, sent, sent_reports}
+use Rattle.run.specs.Records.{calls_of}
+use Rattle.machine.specs.declared.record.Answered.{Answered}
+use Rattle.run.specs.Run.{answers_of, call_answers, call_bytes, call_reports, call_steps, is_long, loaded_of, name_of, numbers_of, report_named, reports_of, sent, sent_reports, steps_from}
 use Rattle.run.proofs.Sent.{all_reported, all_sent, answers_most, bytes_left, reports_count}
 use Rattle.text.specs.Text.{letters, cut_of, line_of, lines_from, load_line, printed, run_text, text_of}
 use Rattle.text.specs.Put.{Put}
@@ -81,6 +83,26 @@ pub run_text_refused : (input : List ℕ) → ((loaded_of input).number ≡ 0 �
     → load_line (loaded_of input).number ++ lines_from 1 (drop 1 (answers_of input)) (map report_named (map name_of (call_reports input))) ≡ run_text input
 unfolding run_text call_steps lines_from
 run_text_refused input refused = rw (ne_eqb _ 0 refused)
+
+-- both in one
+pub run_text_lem : (input : List ℕ) {end : ℕ} → end ≡ min (2 + word_at input 0) (length input)
+    → load_line (loaded_of input).number
+    ++ (lines_from 1 (drop 1 (answers_of input)) (map report_named (map name_of (call_reports input)))
+    ++ pick (eqb (pick (eqb (loaded_of input).number 0) (length input - end) 0 % 6) 0) [] (letters "cut\n"))
+    ≡ run_text input
+unfolding run_text call_steps cut_of lines_from
+run_text_lem input {end} ends = rw (lines_named 1 (call_answers input) (call_reports input)) (split (eqb (loaded_of input).number 0))
+  where
+    steps : Bool → List Answered
+    steps b = pick b (steps_from (loaded_of input).machine (calls_of (call_bytes input))) []
+
+    split : (b : Bool)
+        → load_line (loaded_of input).number
+        ++ (lines_from 1 (numbers_of (steps b)) (reports_of (steps b)) ++ pick (eqb (pick b (length input - end) 0 % 6) 0) [] (letters "cut\n"))
+        ≡ load_line (loaded_of input).number
+        ++ pick b (lines_from 1 (numbers_of (steps b)) (reports_of (steps b)) ++ pick (eqb (length (call_bytes input) % 6) 0) [] (letters "cut\n")) []
+    split true = rw (bytes_left input ends)
+    split false = refl
 
 -- every text is shorter than the buffer that `text_of` asks for
 run_most : (input : List ℕ) → length input ≤ 32768 → length (run_text input) ≤ 100000

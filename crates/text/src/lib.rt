@@ -72,7 +72,7 @@ impl Text<'_> {
         self.put_decimal(n);
     }
 
-    // A space and the domain that a name stands for, one below the name, or that there is none.
+    // A space and the domain that a name stands for, one below the name, or that there is none. Names are the run's numbers (RULES 7.7).
     fn put_name(&mut self, name: u32)
         requires { HasRoom 6 self.old }
         ensures { Wrote self.old self.new (column (name_text (report_named name))) }

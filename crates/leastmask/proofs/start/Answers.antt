@@ -18,7 +18,7 @@ returns-then-switched-ne0 c =
     let loads : (load_of c.args.image.now).number ≡ 0 = rw load at c.if-loaded-ne0.false in
     let switch : c.switch_to-switched.result ≡ call_of (call_of (load_of c.args.image.now).machine Enter).machine (Switch c.args.program) =
     c.switch_to-switched.ensures ∙ rw (c.enter-entered.ensures, load) in
-    rw (c.zero.ensures, switch) (sym (not_switched c.args.image.now c.args.program loads (rw switch at c.if-switched-ne0.true)))
+    rw (c.silent.ensures, c.zero.ensures, switch) (sym (not_switched c.args.image.now c.args.program loads (rw switch at c.if-switched-ne0.true)))
 
 pub returns : goal.returns
 returns c =

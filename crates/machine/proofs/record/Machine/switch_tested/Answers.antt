@@ -24,8 +24,8 @@ returns c =
     let saved = c.args.saved.now in
     let m = with_stack own.depth saved own in
     let checks = (c.args.unsound ⇒ 1) ∷ checks_of m (Switch program) in
-    let number : c.checked-number.result ≡ first checks =
-    rw (c.checked-number.ensures, c.switch_number.ensures, c.privileged.ensures) in
+    let number : c.chosen-number.result ≡ first checks =
+    rw (c.chosen-number.ensures, c.switch_number.ensures, c.privileged.ensures) in
     let both =
     lent_stack own
     (elim c.if-number-eq0.branch [
