@@ -79,8 +79,8 @@ new: first [] = ((
 # does not refuse it: the definition has another name, so that the law is about nothing.
 law: levels
 file: crates/rules/specs/Domains.antt
-old: abbrev pub is_not_lower : Prevailing → ℕ → Bool\nis_not_lower Absent s = true\nis_not_lower (At domain) s = leb s domain
-new: abbrev pub is_not_higher : Prevailing → ℕ → Bool\nis_not_higher Absent s = true\nis_not_higher (At domain) s = leb s domain
+old: abbrev pub is_not_lower : Option ℕ → ℕ → Bool\nis_not_lower None s = true\nis_not_lower (Some domain) s = leb s domain
+new: abbrev pub is_not_higher : Option ℕ → ℕ → Bool\nis_not_higher None s = true\nis_not_higher (Some domain) s = leb s domain
 
 # stands 0 times: there is no such text.
 law: first_met
@@ -117,8 +117,8 @@ new: return 18;
 # names a module in a line: such a name would stay that of the unchanged module.
 law: first_met
 file: crates/rules/specs/Refusals.antt
-old: Bool, true, false, List, [], ◌∷◌}
-new: Bool, true, false, List, [], ◌∷◌}\nuse Rattle.rules.specs.Registers as registers
+old: Bool, true, false, List, [], ◌∷◌, Result, Ok, Err}
+new: Bool, true, false, List, [], ◌∷◌, Result, Ok, Err}\nuse Rattle.rules.specs.Registers as registers
 
 # there is no law: nobody has stated it.
 law: first_met_never

@@ -81,7 +81,7 @@ fn print_call(
 }
 
 // Makes the calls one after another, each on the machine that the one before it left, and prints what each answers.
-#[tactic(auto, using(crate::proofs::Rounds::one_more, run::proofs::Steps::none_left), unfolding(crate::specs::Writing::machine_after))]
+#[tactic(auto, using(crate::proofs::Rounds::one_more, run::proofs::Steps::no_call_left), unfolding(crate::specs::Writing::machine_after))]
 fn make_calls(rt: &impl Print, start: Machine, calls: &[u8]) -> io::Result<Machine>
     ensures { IfOk result (λ machine. machine ≡ machine_after start (calls_of calls.now)) }
 {

@@ -87,8 +87,8 @@ count_calls (k ∷ r ∷ a ∷ a' ∷ b ∷ []) = refl
 count_calls (k ∷ r ∷ a ∷ a' ∷ b ∷ b' ∷ rest) = let more = count_calls rest in omega arith
 
 -- past the last there is none
-pub none_left : (bytes : List ℕ) (i : ℕ) → length bytes / 6 ≤ i → drop i (calls_of bytes) ≡ []
-none_left bytes i past = drop_of_length-le (calls_of bytes) (omega (arith, count_calls bytes))
+pub no_call_left : (bytes : List ℕ) (i : ℕ) → length bytes / 6 ≤ i → drop i (calls_of bytes) ≡ []
+no_call_left bytes i past = drop_of_length-le (calls_of bytes) (omega (arith, count_calls bytes))
 
 -- one step for every call
 pub count_steps : (m : Machine) (calls : List (Option Call)) → length (steps_from m calls) ≡ length calls

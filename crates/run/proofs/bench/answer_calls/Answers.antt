@@ -6,7 +6,7 @@ use native.Mathlib.Omega.{arith}
 use Rattle.machine.specs.Machine.{is_sound, with_lent}
 use Rattle.machine.specs.declared.record.Answered.{Answered}
 use Rattle.run.specs.Run.{steps_from, numbers_of, reports_of, name_of}
-use Rattle.run.proofs.Steps.{next_step, none_left, whole, turn, sound_step, step_sound}
+use Rattle.run.proofs.Steps.{next_step, no_call_left, whole, turn, sound_step, step_sound}
 use Rattle.run.proofs.bench.answer_calls.Goals as goal
 
 pub loop-i-preserved : goal.loop-i-preserved
@@ -25,5 +25,5 @@ loop-i-preserved c =
 pub returns : goal.returns
 unfolding steps_from
 returns c =
-    let left = none_left c.args.calls.now c.loop-i.i (omega (arith, c.as_chunks.ensures.front_len)) in
+    let left = no_call_left c.args.calls.now c.loop-i.i (omega (arith, c.as_chunks.ensures.front_len)) in
     record { answers_after = rw left at c.loop-i.invariant.answered; names_after = rw left at c.loop-i.invariant.named }
