@@ -280,31 +280,38 @@ impl Machine {
         number
     }
 
-    // The grant or the revocation by value.
-    #[tactic(auto, using(crate::proofs::Answers::call_checked, crate::proofs::LentParts::change_alone))]
-    fn change(self, granting: bool, right: u8, page: Page, domain: Domain) -> Answered
-        ensures { result ≡ call_of self (change_call granting right page domain) }
+    // The grant or the revocation by value, without the check for 1 (RULES 2.8). Always inlined: as a call of its own it copied the machine, and a grant
+    // took more than twice the time. With the check in it too, one copy more was left.
+    #[inline(always)]
+    #[tactic(auto, using(crate::proofs::LentParts::change_alone))]
+    fn change_unchecked(self, granting: bool, right: u8, page: Page, domain: Domain) -> Answered
+        ensures { result ≡ unchecked_of self (change_call granting right page domain) }
     {
-        if !self.sound() {
-            return self.unsound();
-        }
         let mut fields = self.fields;
         let number = self.change_lent(&mut fields, granting, right, page, domain);
         self.answered_with(number, fields)
     }
 
     // Grant of a right to a page to a domain (RULES 3.4, 3.5).
+    #[tactic(auto, using(crate::proofs::Answers::call_checked))]
     pub fn grant(self, right: u8, page: Page, domain: Domain) -> Answered
         ensures { result ≡ call_of self (Call.Grant right page domain) }
     {
-        self.change(true, right, page, domain)
+        if !self.sound() {
+            return self.unsound();
+        }
+        self.change_unchecked(true, right, page, domain)
     }
 
     // Revoke of a right to a page from a domain (RULES 3.6, 3.7).
+    #[tactic(auto, using(crate::proofs::Answers::call_checked))]
     pub fn revoke(self, right: u8, page: Page, domain: Domain) -> Answered
         ensures { result ≡ call_of self (Call.Revoke right page domain) }
     {
-        self.change(false, right, page, domain)
+        if !self.sound() {
+            return self.unsound();
+        }
+        self.change_unchecked(false, right, page, domain)
     }
 
     // The mask command, without the check for 1 (RULES 2.8).

@@ -11,3 +11,4 @@ pub use record::{
     Answered, Call, Domain, Machine, Page, Program, Report, Violation, Violations, Width,
 };
 pub use rules::registers::{Mode, Registers};
+pub use rules::{Refusal, outcome_number};
