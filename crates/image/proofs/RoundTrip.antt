@@ -4,11 +4,13 @@ use mathlib.Core.Path.{◌≡◌, ap, sym, ◌∙◌}
 use mathlib.Core.List.{List, [], ◌∷◌, ◌++◌}
 use native.Mathlib.Omega.{arith}
 use lib.ListN.{length, get_or}
+use Rattle.rules.specs.declared.registers.Mode.{Mode}
+use Rattle.rules.specs.declared.registers.Mode.TheVariants.{User, Privileged}
 use Rattle.machine.specs.Machine.{no_program}
 use Rattle.machine.specs.Calls.{silent}
 use Rattle.machine.specs.declared.record.Program.{Program}
 use Rattle.image.specs.Bytes.{Bytes, word, bodies}
-use Rattle.image.specs.Description.{Description, Shaped, Legal, entry, shape, program_bytes, bytes_of, machine_of}
+use Rattle.image.specs.Description.{Description, Shaped, Legal, entry, shape, mode_byte, program_bytes, bytes_of, machine_of}
 use Rattle.image.specs.Load.{describe, load_of}
 use Rattle.image.proofs.Passed.{passed, passes}
 use Rattle.image.proofs.Reread.{describe_bytes, bytes_pass}
@@ -45,7 +47,11 @@ entry_bytes : (kind offset size : ℕ) → kind < 256 → offset < 65536 → siz
 entry_bytes kind offset size k o n = more k (more (omega arith) (join (word_bytes offset o) (word_bytes size n)))
 
 program_bytes_lem : (p : Program) → p.context < 65536 → p.mask < 65536 → AllBytes (program_bytes p)
-program_bytes_lem p c m = join (word_bytes p.context c) (join (word_bytes p.mask m) (more (grind arith) none))
+program_bytes_lem p c m = join (word_bytes p.context c) (join (word_bytes p.mask m) (more (mode_byte_lem p.mode) none))
+  where
+    mode_byte_lem : (mode : Mode) → mode_byte mode < 256
+    mode_byte_lem User = omega arith
+    mode_byte_lem Privileged = omega arith
 
 -- what a legal description is written in are bytes
 pub legal_bytes : (d : Description) → Legal d → Bytes (bytes_of d)

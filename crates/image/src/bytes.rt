@@ -1,7 +1,7 @@
 // What the bytes of an image say at any place: 0 past the image's end.
 ghost use Rattle.std.specs.Prelude.{◌≡◌};
 ghost use Rattle.image.specs.Bytes.{byte_at, word_at, word_of};
-ghost use Rattle.image.specs.Load.{kind_at, zero_at, offset_at, length_at, page_count, page_exponent, program_count, field_at, mode_at};
+ghost use Rattle.image.specs.Load.{kind_at, zero_at, offset_at, length_at, page_count, page_exponent, program_count, field_at, context_at, mask_at, mode_at};
 
 // An entry of the table of contents (RULES 5.3): its kind, the byte that should be 0, where its part starts and how long that is.
 #[derive(Clone, Copy, Debug, PartialEq, Eq)]
@@ -77,7 +77,19 @@ pub fn field_at(bytes: &[u8], at: u16) -> u16
     word_at(bytes, at as u32)
 }
 
-// The mode byte of the program that starts at a place.
+// The global context of the program that starts at a place; then its mask and its mode byte, each under the name of its definition.
+pub fn context_at(bytes: &[u8], start: u16) -> u16
+    ensures { result ≡ context_at bytes.now start }
+{
+    word_at(bytes, start as u32)
+}
+
+pub fn mask_at(bytes: &[u8], start: u16) -> u16
+    ensures { result ≡ mask_at bytes.now start }
+{
+    word_at(bytes, 2 + start as u32)
+}
+
 pub fn mode_at(bytes: &[u8], start: u16) -> u8
     ensures { result ≡ mode_at bytes.now start }
 {

@@ -1,3 +1,4 @@
+pub mod Parts
 pub mod Steps
 pub mod Sent
 pub mod Given

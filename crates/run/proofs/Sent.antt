@@ -14,6 +14,7 @@ use Rattle.machine.specs.declared.record.Answered.{Answered}
 use Rattle.image.specs.Bytes.{word_at}
 use Rattle.run.specs.Records.{calls_of}
 use Rattle.run.specs.Run.{answers_of, call_answers, call_bytes, call_reports, call_steps, loaded_of, name_of, numbers_of, reports_of, sent, sent_reports, steps_from}
+use Rattle.run.proofs.Parts.{calls_part}
 use Rattle.run.proofs.Steps.{count_calls, count_steps}
 
 -- what the contract of `run_named` says of a count, of the answers at exit and of the names at exit; that of `bench_run` has no names
@@ -52,9 +53,14 @@ answers_count input = split (eqb (loaded_of input).number 0)
     split false = refl
 
 -- the steps of a run: those of the calls after an accepted load, and none after a refused one
-pub steps_all : (input : List ℕ) → (loaded_of input).number ≡ 0 → steps_from (loaded_of input).machine (calls_of (call_bytes input)) ≡ call_steps input
+pub steps_read : (input : List ℕ) → (loaded_of input).number ≡ 0 → steps_from (loaded_of input).machine (calls_of (call_bytes input)) ≡ call_steps input
 unfolding call_steps
-steps_all input zero = rw zero
+steps_read input zero = rw zero
+
+-- the same of the bytes from where the calls start
+pub steps_all : (input : List ℕ) {end : ℕ} → end ≡ min (2 + word_at input 0) (length input) → (loaded_of input).number ≡ 0
+    → steps_from (loaded_of input).machine (calls_of (drop end input)) ≡ call_steps input
+steps_all input ends zero = rw (calls_part input ends) (steps_read input zero)
 
 pub steps_none : (input : List ℕ) → ((loaded_of input).number ≡ 0 → ⊥) → [] ≡ call_steps input
 unfolding call_steps

@@ -5,7 +5,7 @@ use mathlib.Core.List.{[]}
 use lib.ListN.{length}
 use Rattle.image.proofs.Loaded.{loaded}
 use Rattle.run.specs.Run.{answers_of, image_of, loaded_of}
-use Rattle.run.proofs.Sent.{answers_count, all_sends, long_sends, short_sends, steps_all, steps_none}
+use Rattle.run.proofs.Sent.{answers_count, all_sends, long_sends, short_sends, steps_none, steps_read}
 use Rattle.run.proofs.bench.run_named.Goals.{After-answer_count-count}
 use Rattle.run.proofs.bench.run_named.Goals as goal
 
@@ -32,7 +32,7 @@ returns-then-loaded-eq0 c =
     let before = (goal.at.returns-then-loaded-eq0 c).After-answer_count-count in
     let stored = rw (load before, c.split_input.ensures.calls) at c.answer_calls.ensures in
     all_sends _ _ _ c.if-input-gt32768.false (counted before) _ c.if-answers-count.false
-    (steps_all c.args.input.now (rw (load before) at c.if-loaded-eq0.true)) stored.answers_after stored.names_after
+    (steps_read c.args.input.now (rw (load before) at c.if-loaded-eq0.true)) stored.answers_after stored.names_after
 
 pub returns-else-loaded-eq0 : goal.returns-else-loaded-eq0
 returns-else-loaded-eq0 c =
