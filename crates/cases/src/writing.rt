@@ -37,15 +37,16 @@ fn call_on(machine: Machine, call: Option<Call>) -> Answered
     }
 }
 
-// Prints what was handed out on a line: program, right and address, or that it was none. Hands it back.
+// Prints what was handed out on a line: program, right and address, or that it was none. Hands it back. A line with a word before its numbers goes out
+// in two pieces, here and in `print_round`: how many writes there are is part of what the program does.
 fn print_report(rt: &impl Print, report: Report) -> io::Result<Report>
     ensures { IfOk result (λ printed. printed ≡ report) }
 {
     match report {
-        Report::Denied(violation) => println!(rt;
-            "denied {} {} {}",
-            violation.program, violation.right, violation.address
-        )?,
+        Report::Denied(violation) => {
+            print!(rt; "denied {} ", violation.program)?;
+            println!(rt; "{} {}", violation.right, violation.address)?;
+        }
         Report::Nothing | Report::Through(_) => println!(rt; "none")?,
     }
     Ok(report)
@@ -152,7 +153,8 @@ fn print_round(rt: &impl Print, bytes: &[u8], calls: &[u8], buffer: &mut [u8]) -
     let machine = hold(rt, bytes, calls)?;
     let written = write(machine, buffer);
     let count = written.unwrap_or(0);
-    println!(rt; "write {} {count}", outcome_number(written))?;
+    print!(rt; "write ")?;
+    println!(rt; "{} {count}", outcome_number(written))?;
     print_bytes(rt, buffer)?;
     Ok(count)
 }
