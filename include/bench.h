@@ -114,18 +114,17 @@
 
 /*
  * How much stack a call of bench_run should find free, in bytes. It is more
- * than one and a half times the most that was measured, with the older kit
- * (rattle-kit-5b):
+ * than one and a half times the most that was measured, in November 2026 with
+ * rattle-kit-13f:
  *
- * The function itself took 1,840: the return address, six registers and
- * 1,784 bytes of locals, as its disassembly showed (objdump -d). It calls only
- * memcpy and memset, which puts 8 more there and what these two take. On a
- * stack filled with a pattern a call took 1,848, with glibc 2.36. Where a
- * program is linked so that memcpy and memset are looked up when they are
- * first called, the first call took 5,032 on a processor with vector registers
- * of 64 bytes: the system's loader then works on the same stack and saves
- * these registers there. On one with 32 it took 3,368 to 3,432 in an earlier
- * version, whose locals were 16 bytes fewer.
+ * The function itself took 1,360: the return address, six registers and 1,304
+ * bytes of locals, as its disassembly showed (objdump -d). It calls memcpy,
+ * memset, and the load of an image, which took 720 more in the same way and
+ * calls the same two; they put 8 more there and what they take. On a stack
+ * filled with a pattern a call took 2,088, with glibc 2.36. Where a program is
+ * linked so that memcpy and memset are looked up when they are first called,
+ * the first call took 5,288: the system's loader then works on the same stack
+ * and saves vector registers there, more on a processor with wider ones.
  * tests/bench/stack.c measures both calls again.
  */
 #define BENCH_STACK_ENOUGH 8192
